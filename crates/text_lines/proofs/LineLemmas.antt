@@ -1,0 +1,77 @@
+-- Cutting a text into lines, and a line into words, from the front.
+use Rattle.std.proofs.Common.{◌≡◌, ◌<◌, ◌+◌, ℕ, zero, suc, true, false, not, eqb, List, ◌∷◌, [], length, get_or, take, drop, refl, ap, sym, arith, Some, None}
+use Rattle.std.specs.List.{position, slice_split}
+use Rattle.std.proofs.lemmas.List.Splits.{slice_split-cons_yes, length-slice_split}
+use Rattle.std.proofs.lemmas.List.Quantifiers.{position-Some}
+use Rattle.std.proofs.lemmas.Bool.Decides.{nat_tests}
+use Rattle.flask_sid.proofs.Cuts.{cut_at, uncut}
+use Rattle.text_lines.specs.Lines.{is_word_byte, is_gap, begins_word, is_filled, words_of, lines_below, lines_of, is_line_end}
+
+-- a byte that divides words says nothing
+pub words_of_gap : (b : ℕ) (bs : List ℕ) → is_word_byte b ≡ false → words_of (b ∷ bs) ≡ words_of bs
+unfolding words_of
+words_of_gap b bs gap = rw (slice_split-cons_yes is_gap b bs (ap not gap)) refl
+
+-- the same, where the bytes are read by place
+pub words_behind_gap : (bytes : List ℕ) (b : ℕ) → eqb (length bytes) 0 ≡ false → get_or bytes 0 0 ≡ b → is_word_byte b ≡ false → words_of (drop 1 bytes) ≡ words_of bytes
+words_behind_gap [] b some read gap = cc
+words_behind_gap (first ∷ rest) b some read gap = sym (words_of_gap first rest (rw read gap))
+
+-- bytes that begin with a byte of a word, read by place
+pub begins_at : (bytes : List ℕ) (b : ℕ) → eqb (length bytes) 0 ≡ false → get_or bytes 0 0 ≡ b → is_word_byte b ≡ true → begins_word bytes ≡ true
+begins_at [] b some read word = cc
+begins_at (first ∷ rest) b some read word = rw read word
+
+-- no bytes have no word
+pub no_word : (bytes : List ℕ) → eqb (length bytes) 0 ≡ true → words_of bytes ≡ []
+unfolding words_of
+no_word [] none = refl
+no_word (b ∷ bs) none = absurd (grind (arith, nat_tests, none))
+
+-- the one word of bytes with no gap
+pub one_word : (bytes : List ℕ) → begins_word bytes ≡ true → position is_gap bytes ≡ None → words_of bytes ≡ bytes ∷ words_of []
+unfolding words_of
+one_word [] begins none = cc
+one_word (b ∷ bs) begins none = rw (uncut is_gap (b ∷ bs) none) refl
+
+-- bytes up to a gap that is not at once
+filled : (b : ℕ) (bs : List ℕ) (i : ℕ) → is_word_byte b ≡ true → position is_gap (b ∷ bs) ≡ Some i → is_filled (take i (b ∷ bs)) ≡ true
+filled b bs zero begins at =
+    let gap : is_gap b ≡ true = (position-Some is_gap (b ∷ bs) 0 0 at).1 in
+    let word : is_gap b ≡ false = ap not begins in
+    cc
+filled b bs (suc i) begins at = refl
+
+-- the first word ends at the first gap
+pub word_cut : (bytes : List ℕ) (i : ℕ) → begins_word bytes ≡ true → position is_gap bytes ≡ Some i → (i < length bytes) × (words_of bytes ≡ take i bytes ∷ words_of (drop (i + 1) bytes))
+unfolding words_of
+word_cut [] i begins at = cc
+word_cut (b ∷ bs) i begins at =
+    let parts = cut_at is_gap (b ∷ bs) 0 i at in
+    (parts.0, rw (parts.1, filled b bs i begins at) refl)
+
+-- no bytes have no line
+pub no_line : (bytes : List ℕ) → eqb (length bytes) 0 ≡ true → lines_of bytes ≡ []
+unfolding lines_of lines_below
+no_line [] none = refl
+no_line (b ∷ bs) none = absurd (grind (arith, nat_tests, none))
+
+-- the one line of a text that has no line end
+pub one_line : (bytes : List ℕ) → eqb (length bytes) 0 ≡ false → slice_split is_line_end bytes ≡ bytes ∷ [] → lines_of bytes ≡ bytes ∷ lines_of []
+unfolding lines_of lines_below
+one_line [] some one = cc
+one_line (b ∷ bs) some one = rw one refl
+
+-- a line above others
+line_above : (line : List ℕ) (parts : List (List ℕ)) → 0 < length parts → lines_below (line ∷ parts) ≡ line ∷ lines_below parts
+unfolding lines_below
+line_above [] [] some = absurd (omega (arith, some))
+line_above (b ∷ bs) [] some = absurd (omega (arith, some))
+line_above [] (part ∷ parts) some = refl
+line_above (b ∷ bs) (part ∷ parts) some = refl
+
+-- the first line of a text that has a line end
+pub line_cut : (bytes line rest : List ℕ) → slice_split is_line_end bytes ≡ line ∷ slice_split is_line_end rest → lines_of bytes ≡ line ∷ lines_of rest
+unfolding lines_of
+line_cut bytes line rest parts =
+    rw parts (line_above line (slice_split is_line_end rest) (omega (arith, length-slice_split is_line_end rest)))

@@ -1,0 +1,77 @@
+ghost use Rattle.std.specs.Prelude.{◌≡◌, [], ◌∷◌, MatchOption};
+ghost use Rattle.std.specs.List.{list_all};
+ghost use Rattle.text_lines.specs.Lines;
+
+use crate::fault::FaultKind;
+use crate::words::{Words, is_word_byte};
+use flask_sid::{Word, cut};
+
+/// The greatest number that a line may have.
+pub const LINE_LIMIT: u32 = 100_000;
+
+/// The first line of a text and the text below it, or `None` exactly where no line is left.
+pub fn first_line(bytes: &[u8]) -> Option<(&[u8], &[u8])>
+    ensures { MatchOption result (Lines.lines_of bytes.now ≡ [])
+        (λ parts. Lines.lines_of bytes.now ≡ parts.0.now ∷ Lines.lines_of parts.1.now) }
+{
+    if bytes.is_empty() {
+        return None;
+    }
+    match cut(bytes, b'\n') {
+        None => Some((bytes, &[])),
+        Some(parts) => Some(parts),
+    }
+}
+
+/// What a line of this number says: its words, or none where it is blank or a comment. `Limit` exactly for a
+/// number past the limit, and else `Syntax` exactly for a byte that may not stand.
+#[tactic(auto, unfolding(crate::specs::Lines::line_words))]
+pub fn line_words<'a>(number: u32, line: &'a [u8]) -> Result<Words<'a>, FaultKind>
+    ensures { result ≡ Lines.line_words number line.now }
+{
+    if number > LINE_LIMIT {
+        return Err(FaultKind::Limit);
+    }
+    if !may_all_stand(line) {
+        return Err(FaultKind::Syntax);
+    }
+    Ok(said_words(Words::new(line)))
+}
+
+fn may_all_stand(line: &[u8]) -> bool
+    ensures { result ≡ list_all Lines.may_stand line.now }
+{
+    line.iter().all(|b| may_stand(*b))
+}
+
+fn may_stand(b: u8) -> bool
+    ensures { result ≡ Lines.may_stand b }
+{
+    is_word_byte(b) || b == b' ' || b == b'\t'
+}
+
+#[tactic(auto, unfolding(crate::specs::Lines::said_words))]
+fn said_words<'a>(words: Words<'a>) -> Words<'a>
+    ensures { result ≡ Lines.said_words words.entry }
+{
+    let mut rest = words.again();
+    match rest.next() {
+        None => words,
+        Some(first) => {
+            if is_comment(&first) {
+                Words::none()
+            } else {
+                words
+            }
+        }
+    }
+}
+
+fn is_comment(word: &Word<'_>) -> bool
+    ensures { result ≡ Lines.is_comment word.now }
+{
+    match word.as_bytes() {
+        [] => false,
+        [first, ..] => *first == b'#',
+    }
+}

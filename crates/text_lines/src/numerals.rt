@@ -1,0 +1,70 @@
+ghost use Rattle.std.specs.Prelude.{◌≡◌, ◌++◌, ◌<◌, ◌≤◌, ◌^◌, true, length, OnOk, OnErr, decimal};
+ghost use Rattle.std.specs.List.{list_all};
+ghost use Rattle.std.specs.Str.Parse.{digits_value};
+ghost use Rattle.text_lines.specs.Numerals;
+
+use flask_sid::{Memory, Piece, Word};
+use itoa::Buffer;
+
+/// The number that a word of 1 to 10 digits is, which may begin with zeros, or `None` exactly where the word
+/// is no such numeral.
+#[tactic(auto, unfolding(crate::specs::Numerals::numeral_of))]
+pub fn numeral(word: &Word<'_>) -> Option<u64>
+    ensures { result ≡ Numerals.numeral_of word.now }
+{
+    let digits = word.as_bytes();
+    if digits.is_empty() || digits.len() > 10 || !are_digits(digits) {
+        return None;
+    }
+    Some(value_of(digits))
+}
+
+/// Adds the decimal form of a number, without leading zeros. After `Memory` the piece is as before.
+pub fn put_number(out: &mut Piece, number: u64) -> Result<(), Memory>
+    ensures ok { OnOk result (out.new ≡ out.old ++ decimal number) }
+    ensures err { OnErr result (out.new ≡ out.old) }
+{
+    let mut buffer = Buffer::new();
+    out.extend(buffer.format(number).as_bytes())
+}
+
+fn are_digits(bytes: &[u8]) -> bool
+    ensures { result ≡ list_all Numerals.is_digit bytes.now }
+{
+    bytes.iter().all(|b| is_digit(*b))
+}
+
+fn is_digit(b: u8) -> bool
+    ensures { result ≡ Numerals.is_digit b }
+{
+    b.is_ascii_digit()
+}
+
+fn value_of(digits: &[u8]) -> u64
+    requires digits { list_all Numerals.is_digit digits.now ≡ true }
+    requires short { length digits.now ≤ 10 }
+    ensures { result ≡ digits_value 10 digits.now }
+{
+    let mut value = 0;
+    'digits: for digit in digits {
+        value = value * 10 + u64::from(*digit - b'0');
+    }
+    value
+}
+
+#[cfg(test)]
+mod tests {
+    use super::*;
+    use std::test::Fail;
+
+    #[test]
+    fn numbers_are_written_and_read(rt: HostRuntime) -> Result<(), Fail> {
+        for (written, number) in [("0", 0), ("10", 10), ("4294967295", 4_294_967_295)] {
+            let mut out = Piece::new(rt.alloc());
+            put_number(&mut out, number).or(Err("out of memory"))?;
+            assert_eq!(rt; out.as_bytes(), written.as_bytes());
+            assert_eq!(rt; numeral(&Word::new(out.as_bytes())), Some(number));
+        }
+        Ok(())
+    }
+}
