@@ -1,0 +1,73 @@
+ghost use Rattle.std.specs.Prelude.{◌≡◌, ◌+◌, ◌<◌, ◌≤◌, [], ◌++◌, length, Err, IfOk, OnOk, vec_len, vec_capacity};
+ghost use Rattle.flask_io.specs.Streams.{Takes, HasCause};
+ghost use Rattle.flaskd_run.specs.Reading.{IsEnd, TakesOn, IsMore};
+
+use flask_io::{Got, Source};
+
+/// The greatest number of bytes that an input may have.
+pub const INPUT_LIMIT: usize = 4_194_304;
+
+const CHUNK: usize = 4096;
+
+/// Why an input was not read to its end.
+#[derive(Clone, Copy, Debug, PartialEq, Eq)]
+pub enum ReadStop {
+    /// The source failed, and its count of faults rose.
+    Fault,
+    Memory,
+}
+
+/// Reads all that the source has left into the empty `bytes`, or one byte more than an input may have. Also
+/// where it stops before, `bytes` is all that was taken.
+pub fn read_all<S: Source>(source: &mut S, bytes: &mut Vec<u8>) -> Result<(), ReadStop>
+    requires { bytes.old.items ≡ [] }
+    ensures takes { Takes (S.left source.old) (S.left source.new) bytes.new.items }
+    ensures whole { OnOk result (vec_len bytes.new ≤ INPUT_LIMIT → IsEnd (S.left source.new)) }
+    ensures cause { HasCause (S.faults source.old) (S.faults source.new) (result ≡ Err ReadStop.Fault) }
+{
+    'reading: while bytes.len() <= INPUT_LIMIT {
+        if !read_more(source, bytes)? {
+            return Ok(());
+        }
+    }
+    Ok(())
+}
+
+/// Reads some bytes to the end of `bytes`, at most as many as pass the limit by one. False where nothing is left.
+fn read_more<S: Source>(source: &mut S, bytes: &mut Vec<u8>) -> Result<bool, ReadStop>
+    requires { vec_len bytes.old ≤ INPUT_LIMIT }
+    ensures takes { TakesOn (S.left source.old) (S.left source.new) bytes.old.items bytes.new.items }
+    ensures more { IfOk result (λ some. IsMore some (vec_len bytes.old) (vec_len bytes.new) (S.left source.new)) }
+    ensures cause { HasCause (S.faults source.old) (S.faults source.new) (result ≡ Err ReadStop.Fault) }
+{
+    let Ok(()) = bytes.reserve(CHUNK) else {
+        return Err(ReadStop::Memory);
+    };
+    let mut chunk = [0; CHUNK];
+    match source.read(&mut chunk[..room(bytes.len())]) {
+        Got::Failed => Err(ReadStop::Fault),
+        Got::End => Ok(false),
+        Got::Bytes(n) => {
+            add(bytes, &chunk[..n]);
+            Ok(true)
+        }
+    }
+}
+
+/// How many bytes may be read where so many were: at most a chunk, and at most one past the limit.
+fn room(len: usize) -> usize
+    requires { len ≤ INPUT_LIMIT }
+    ensures some { 0 < result }
+    ensures chunk { result ≤ CHUNK }
+    ensures limit { len + result ≤ INPUT_LIMIT + 1 }
+{
+    (INPUT_LIMIT + 1 - len).min(CHUNK)
+}
+
+/// Adds bytes for which there is room, so that it takes no memory.
+fn add(bytes: &mut Vec<u8>, more: &[u8])
+    requires { vec_len bytes.old + length more.now ≤ vec_capacity bytes.old }
+    ensures { bytes.new.items ≡ bytes.old.items ++ more.now }
+{
+    let _ = bytes.extend_from_slice(more);
+}
