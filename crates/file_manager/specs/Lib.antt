@@ -1,0 +1,4 @@
+pub mod Paths
+pub mod Plain
+pub mod Cores
+pub mod Serving
