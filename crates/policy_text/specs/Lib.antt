@@ -1,0 +1,5 @@
+pub mod Forms
+pub mod Above
+pub mod Known
+pub mod Grammar
+pub mod Reading
