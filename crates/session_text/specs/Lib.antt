@@ -1,1 +1,5 @@
 pub mod PathForms
+pub mod SetupForms
+pub mod RunForms
+pub mod Sessions
+pub mod Grammar

@@ -1,13 +1,13 @@
-// A library with one function.
+//! Sessions, as texts: a policy, what is there at the start, the clients, and the lines that are run.
 #![tactic(auto)]
 
-ghost use Rattle.std.specs.Prelude.{◌≡◌};
-ghost use Rattle.session_text.specs.Echo.{echo_of};
+mod form;
+mod look_up;
+mod parts;
+mod running;
+mod session;
+mod setup;
 
-// The `ensures` clause is the contract: what `echo` returns is `echo_of` of its argument, a definition
-// in `specs/Echo.antt`, which a caller's clause can cite too.
-pub fn echo(x: usize) -> usize
-    ensures { result ≡ echo_of x }
-{
-    x
-}
+pub use form::{CallForm, RunForm, SetupForm, run_form, setup_form};
+pub use parts::{Parts, path_form};
+pub use session::{ClientLine, NodeLine, Run, RunLine, Session, SessionParts};

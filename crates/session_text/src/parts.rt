@@ -1,4 +1,4 @@
-ghost use Rattle.std.specs.Prelude.{◌≡◌, ◌==◌, [], ◌∷◌, ◌<◌, length, Some, None, IfOk, MatchOption};
+ghost use Rattle.std.specs.Prelude.{◌≡◌, ◌==◌, [], ◌∷◌, nat_lt, nat_le, length, IfOk, MatchOption};
 ghost use Rattle.std.specs.List.{list_all, list_any};
 ghost use Rattle.flask_sid.specs.Names;
 ghost use Rattle.session_text.specs.PathForms;
@@ -84,23 +84,56 @@ impl<'a> Parts<'a> {
         true
     }
 
+    /// Whether the path is the root's or that of a name in the root.
+    pub fn is_below_root(&self) -> bool
+        ensures { result ≡ nat_le (length self.now) 1 }
+    {
+        let mut parts = self.again();
+        let Some(_part) = parts.next() else {
+            return true;
+        };
+        match parts.next() {
+            None => true,
+            Some(_more) => false,
+        }
+    }
+
+    /// Whether the path has one part.
+    pub fn is_one(&self) -> bool
+        ensures { result ≡ (length self.now == 1) }
+    {
+        let mut parts = self.again();
+        let Some(_part) = parts.next() else {
+            return false;
+        };
+        match parts.next() {
+            None => true,
+            Some(_more) => false,
+        }
+    }
+
     /// Whether there are more parts than a path may have, or a part is too long.
     #[tactic(auto, unfolding(crate::specs::PathForms::is_long_path))]
     pub fn is_long(&self) -> bool
         ensures { result ≡ PathForms.is_long_path self.now }
     {
-        self.count() > PART_LIMIT || self.has_long_part()
+        self.are_many() || self.has_long_part()
     }
 
-    fn count(&self) -> usize
-        ensures { result ≡ length self.now }
+    /// Whether there are more parts than a path may have.
+    fn are_many(&self) -> bool
+        ensures { result ≡ nat_lt 16 (length self.now) }
     {
         let mut parts = self.again();
-        let mut count = 0;
-        'parts: while let Some(_part) = parts.next() {
-            count += 1;
+        for at in 0..PART_LIMIT {
+            let Some(_part) = parts.next() else {
+                return false;
+            };
         }
-        count
+        match parts.next() {
+            None => false,
+            Some(_part) => true,
+        }
     }
 
     fn has_long_part(&self) -> bool
@@ -140,7 +173,11 @@ pub fn path_form<'a>(word: &Word<'a>) -> Option<Parts<'a>>
                 return None;
             }
             let parts = Parts::behind(rest);
-            if parts.are_part_forms() { Some(parts) } else { None }
+            if parts.are_part_forms() {
+                Some(parts)
+            } else {
+                None
+            }
         }
     }
 }
@@ -149,10 +186,7 @@ pub fn path_form<'a>(word: &Word<'a>) -> Option<Parts<'a>>
 fn is_part_form(part: &[u8]) -> bool
     ensures { result ≡ PathForms.is_part_form part.now }
 {
-    !part.is_empty()
-        && are_part_bytes(part)
-        && part != b".".as_slice()
-        && part != b"..".as_slice()
+    !part.is_empty() && are_part_bytes(part) && part != b".".as_slice() && part != b"..".as_slice()
 }
 
 fn are_part_bytes(part: &[u8]) -> bool
@@ -164,5 +198,10 @@ fn are_part_bytes(part: &[u8]) -> bool
 fn is_part_byte(b: u8) -> bool
     ensures { result ≡ PathForms.is_part_byte b }
 {
-    b.is_ascii_lowercase() || b.is_ascii_uppercase() || b.is_ascii_digit() || b == b'.' || b == b'_' || b == b'-'
+    b.is_ascii_lowercase()
+        || b.is_ascii_uppercase()
+        || b.is_ascii_digit()
+        || b == b'.'
+        || b == b'_'
+        || b == b'-'
 }
