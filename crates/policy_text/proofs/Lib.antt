@@ -1,2 +1,4 @@
 pub mod VersionLemmas
 pub mod ReadingLemmas
+pub mod VectorLemmas
+pub mod DecidingLemmas

@@ -79,13 +79,14 @@ has_version policy = not (length policy.versions == 0)
 abbrev pub listed_count : PolicyParts → ℕ
 listed_count policy = length policy.nevers + length policy.silent + length policy.loud
 
+-- the rule lines of a version, and none where there is no such version
+abbrev pub rules_of : Option Version → List RuleLine
+rules_of None = []
+rules_of (Some version) = version.rules
+
 -- the rule lines of the newest version
 unfoldable pub newest_rules : List Version → List RuleLine
 newest_rules versions = rules_of (slice_get versions (length versions - 1))
-  where
-    rules_of : Option Version → List RuleLine
-    rules_of None = []
-    rules_of (Some version) = version.rules
 
 -- no context more may be declared, or no type where the context's type is new
 unfoldable pub is_full_for : PolicyParts → ContextOf (List ℕ) → Bool

@@ -3,3 +3,5 @@ pub mod Above
 pub mod Known
 pub mod Grammar
 pub mod Reading
+pub mod Matching
+pub mod Deciding

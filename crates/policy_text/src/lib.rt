@@ -6,10 +6,13 @@
 #![tactic(auto)]
 
 mod above;
+mod deciding;
 mod declarations;
 mod form;
 mod known;
+mod labelling;
 mod line;
+mod matching;
 mod policy;
 mod reader;
 mod rules;
