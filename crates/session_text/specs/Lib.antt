@@ -3,3 +3,4 @@ pub mod SetupForms
 pub mod RunForms
 pub mod Sessions
 pub mod Grammar
+pub mod Reading

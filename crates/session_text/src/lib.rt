@@ -4,10 +4,13 @@
 mod form;
 mod look_up;
 mod parts;
+mod reader;
 mod running;
 mod session;
 mod setup;
 
 pub use form::{CallForm, RunForm, SetupForm, run_form, setup_form};
 pub use parts::{Parts, path_form};
+pub use reader::{SessionReader, read};
+pub use running::Running;
 pub use session::{ClientLine, NodeLine, Run, RunLine, Session, SessionParts};
