@@ -1,13 +1,18 @@
-// A library with one function.
+//! Histories of object managers: what a manager did, kept so that it is lawful.
+//!
+//! A `Core` is a manager of objects with its plain manager as a meaning: the manager that keeps no cache and no
+//! rights, and asks the policy in force. A `Keeper` holds a core and its history, and its type keeps that the
+//! history is lawful and the state is the replay of it. It speaks of no thread, no policy text and no cache.
 #![tactic(auto)]
 
-ghost use Rattle.std.specs.Prelude.{◌≡◌};
-ghost use Rattle.manager_history.specs.Echo.{echo_of};
+mod answers;
+mod core_trait;
+mod entry;
+mod keeper;
+mod passes;
 
-// The `ensures` clause is the contract: what `echo` returns is `echo_of` of its argument, a definition
-// in `specs/Echo.antt`, which a caller's clause can cite too.
-pub fn echo(x: usize) -> usize
-    ensures { result ≡ echo_of x }
-{
-    x
-}
+pub use answers::{Ack, NotifyFault, Receipt};
+pub use core_trait::Core;
+pub use entry::Entry;
+pub use keeper::Keeper;
+pub use passes::Passes;
