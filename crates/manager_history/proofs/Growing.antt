@@ -79,3 +79,46 @@ kept_op {Call = Call} {Reply = Reply} {State = State} {plain = plain} {formed = 
           = kept_with entry state' phase room' kept may leads kept.versions place in
     subst (λ (o : State). IsKept d plain formed o state' phase history' room') (sym opening_is)
       (subst (λ (h : List (Entry Call Reply)). IsKept d plain formed opening state' phase h room') (sym history_is) grown)
+
+-- what is kept is kept over the notice of the next number
+pub kept_notice : {Call Reply State : Type 0} {plain : Manager Call Reply State} {formed : Decisions → State → ℕ → Call → Type 0} {d : Decisions}
+  {opening state : State} {phase : Phase} {history : List (Entry Call Reply)} {room : ℕ}
+  (settled old version : ℕ) (opening' state' : State) (history' : List (Entry Call Reply)) (room' : ℕ)
+  → IsKept d plain formed opening state phase history room
+  → phase ≡ Settled settled old → version < d.versions
+  → state' ≡ state → opening' ≡ opening
+  → history' ≡ history ++ Notice (settled + 1) version ∷ []
+  → length history' < room'
+  → IsKept d plain formed opening' state' (Pending (settled + 1) old version) history' room'
+kept_notice {Call = Call} {Reply = Reply} {State = State} {plain = plain} {formed = formed} {d = d} {opening = opening} {state = state} {phase = phase} {history = history} {room = room}
+  settled old version opening' state' history' room' kept_before phase_is below state_is opening_is history_is spare =
+    let kept : IsKept d plain formed opening state (Settled settled old) history room
+          = subst (λ (p : Phase). IsKept d plain formed opening state p history room) phase_is kept_before in
+    let entry : Entry Call Reply = Notice (settled + 1) version in
+    let may : MayCome plain formed d (moment state (Settled settled old)) entry = (refl, below) in
+    let place : length (history ++ entry ∷ []) < room' = subst (λ (h : List (Entry Call Reply)). length h < room') history_is spare in
+    let versions : AreVersions d.versions (Pending (settled + 1) old version) = (omega arith, kept.versions, below) in
+    let grown : IsKept d plain formed opening state' (Pending (settled + 1) old version) (history ++ entry ∷ []) room'
+          = kept_with entry state' (Pending (settled + 1) old version) room' kept may (ap (λ s. moment s (Pending (settled + 1) old version)) (sym state_is)) versions place in
+    subst (λ (o : State). IsKept d plain formed o state' (Pending (settled + 1) old version) history' room') (sym opening_is)
+      (subst (λ (h : List (Entry Call Reply)). IsKept d plain formed opening state' (Pending (settled + 1) old version) h room') (sym history_is) grown)
+
+-- what is kept is kept over the acknowledgement of the pending number
+pub kept_ack : {Call Reply State : Type 0} {plain : Manager Call Reply State} {formed : Decisions → State → ℕ → Call → Type 0} {d : Decisions}
+  {opening state : State} {phase : Phase} {history : List (Entry Call Reply)} {room : ℕ}
+  (number old new : ℕ) (opening' state' : State) (history' : List (Entry Call Reply)) (room' : ℕ)
+  → IsKept d plain formed opening state phase history room
+  → phase ≡ Pending number old new
+  → state' ≡ state → opening' ≡ opening
+  → history' ≡ history ++ Ack number ∷ []
+  → IsKept d plain formed opening' state' (Settled number new) history' room'
+kept_ack {Call = Call} {Reply = Reply} {State = State} {plain = plain} {formed = formed} {d = d} {opening = opening} {state = state} {phase = phase} {history = history} {room = room}
+  number old new opening' state' history' room' kept_before phase_is state_is opening_is history_is =
+    let kept : IsKept d plain formed opening state (Pending number old new) history room
+          = subst (λ (p : Phase). IsKept d plain formed opening state p history room) phase_is kept_before in
+    let entry : Entry Call Reply = Ack number in
+    let may : MayCome plain formed d (moment state (Pending number old new)) entry = refl in
+    let grown : IsKept d plain formed opening state' (Settled number new) (history ++ entry ∷ []) room'
+          = kept_with entry state' (Settled number new) room' kept may (ap (λ s. moment s (Settled number new)) (sym state_is)) kept.versions.2 tt in
+    subst (λ (o : State). IsKept d plain formed o state' (Settled number new) history' room') (sym opening_is)
+      (subst (λ (h : List (Entry Call Reply)). IsKept d plain formed opening state' (Settled number new) h room') (sym history_is) grown)

@@ -56,7 +56,7 @@ impl<'d, C: Core, D: Decider> Model for Keeper<'d, C, D> {
 }
 
 impl<'d, C: Core, D: Decider> Keeper<'d, C, D> {
-    ghost use Rattle.std.specs.Prelude.{◌≡◌, ◌+◌, ◌<◌, ◌≤◌, true, false, min, [], ◌∷◌, ◌++◌, length, take, drop, Option, None, is_some, IfOk, IfErr, OnOk, OnErr, MatchBool, if◌then◌else◌};
+    ghost use Rattle.std.specs.Prelude.{◌≡◌, ◌+◌, ◌<◌, ◌≤◌, true, false, min, [], ◌∷◌, ◌++◌, length, take, drop, Option, None, is_some, IsTrue, IfOk, IfErr, OnOk, OnErr, if◌then◌else◌};
     ghost use Rattle.access_vectors.specs.Asking.{with_keys_of};
     ghost use Rattle.access_vectors.specs.Phases.{number_of, version_at, MayName, noticed, is_pending, acknowledged};
     ghost use Rattle.manager_history.specs.Histories.{moment, answer_at, start_of, replay, IsLawful};
@@ -137,5 +137,133 @@ impl<'d, C: Core, D: Decider> Keeper<'d, C, D> {
         };
         add(&mut self.entries, entry);
         Ok(reply)
+    }
+
+    /// Begins a change to a version, under the next policy number, which it answers. `most` is the last policy number
+    /// that may be made. The refusals are tested in this order: a change is pending, the decider has no such version,
+    /// the numbers are spent. After a refusal the keeper is as before.
+    pub fn notify(&mut self, alloc: Global, ver: u8, most: u32) -> Result<u32, NotifyFault>
+        requires { number_of self.old.phase ≤ most }
+        ensures refusals { IfErr result (IsRefusal (notice_fault self.old.phase (D.decides self.old.decider).versions ver most)) }
+        ensures allowed { OnOk result (notice_fault self.old.phase (D.decides self.old.decider).versions ver most ≡ None) }
+        ensures number { IfOk result (λ number. number ≡ number_of self.old.phase + 1) }
+        ensures added { IfOk result (λ number. self.new.history ≡ self.old.history ++ Entry.Notice number ver ∷ []) }
+        ensures phase { IfOk result (λ number. self.new.phase ≡ noticed self.old.phase number ver) }
+        ensures history_after_refusal { OnErr result (self.new.history ≡ self.old.history) }
+        ensures phase_after_refusal { OnErr result (self.new.phase ≡ self.old.phase) }
+        ensures stale_after_refusal { OnErr result (C.stale self.new.core ≡ C.stale self.old.core) }
+        ensures state { C.state self.new.core ≡ C.state self.old.core }
+        ensures follows { C.follows self.new.core ≡ C.follows self.old.core }
+        ensures decider { self.new.decider ≡ self.old.decider }
+        ensures manager { self.new.manager ≡ self.old.manager }
+        ensures opening { C.opening self.new.core ≡ C.opening self.old.core }
+    {
+        let (settled, old) = match self.phase {
+            Phase::Pending { number, .. } => return Err(NotifyFault::Pending(number)),
+            Phase::Settled { number, version } => (number, version),
+        };
+        if u16::from(ver) >= self.decider.versions() {
+            return Err(NotifyFault::NoVersion);
+        }
+        if settled == most {
+            return Err(NotifyFault::Spent);
+        }
+        let number = settled + 1;
+        let Ok(()) = self.entries.reserve(2) else {
+            return Err(NotifyFault::Memory);
+        };
+        let Ok(_found) = self.core.start(alloc, self.decider, number, old, ver) else {
+            return Err(NotifyFault::Memory);
+        };
+        self.phase = Phase::Pending {
+            number,
+            old,
+            new: ver,
+        };
+        let entry = Entry::Notice {
+            number,
+            version: ver,
+        };
+        add(&mut self.entries, entry);
+        Ok(number)
+    }
+
+    /// Lets the first `k` stale slots, or all where they are fewer, follow the pending number, and answers how many are
+    /// left: 0 where nothing is pending. It takes no memory.
+    pub fn update<L: Ledger>(&mut self, k: u64, steps: &mut Steps<L>) -> u64
+        ensures left { result ≡ length (C.stale self.new.core) }
+        ensures stale { C.stale self.new.core ≡ drop k (C.stale self.old.core) }
+        ensures follows { C.follows self.new.core ≡ now_following (take k (C.stale self.old.core)) (number_of self.old.phase) (C.follows self.old.core) }
+        ensures idle { is_pending self.old.phase ≡ false → result ≡ 0 }
+        ensures cost { steps.new ≤ steps.old + min k (length (C.stale self.old.core)) }
+        ensures state { C.state self.new.core ≡ C.state self.old.core }
+        ensures history { self.new.history ≡ self.old.history }
+        ensures phase { self.new.phase ≡ self.old.phase }
+        ensures decider { self.new.decider ≡ self.old.decider }
+        ensures manager { self.new.manager ≡ self.old.manager }
+        ensures opening { C.opening self.new.core ≡ C.opening self.old.core }
+    {
+        match self.phase {
+            Phase::Settled { .. } => 0,
+            Phase::Pending { .. } => self.core.revise(self.decider, k, steps),
+        }
+    }
+
+    /// Acknowledges the pending number, where no pass below it is out and no slot is stale. The answers are tested in
+    /// this order: nothing is pending, older passes are out, stale slots are left, done. `older` is how many passes
+    /// below the pending number are out, which the caller knows. It takes no memory.
+    pub fn acknowledge(&mut self, older: u64) -> Ack
+        ensures answer { result ≡ ack_answer self.old.phase self.old.manager older (length (C.stale self.old.core)) }
+        ensures added { IsTrue (is_done result) → self.new.history ≡ self.old.history ++ Entry.Ack (number_of self.old.phase) ∷ [] }
+        ensures settled { IsTrue (is_done result) → self.new.phase ≡ acknowledged self.old.phase }
+        ensures follows { IsTrue (is_done result) → C.follows self.new.core ≡ all_following (number_of self.old.phase) (C.follows self.old.core) }
+        ensures history_before { is_done result ≡ false → self.new.history ≡ self.old.history }
+        ensures phase_before { is_done result ≡ false → self.new.phase ≡ self.old.phase }
+        ensures follows_before { is_done result ≡ false → C.follows self.new.core ≡ C.follows self.old.core }
+        ensures state { C.state self.new.core ≡ C.state self.old.core }
+        ensures decider { self.new.decider ≡ self.old.decider }
+        ensures manager { self.new.manager ≡ self.old.manager }
+        ensures opening { C.opening self.new.core ≡ C.opening self.old.core }
+    {
+        let Phase::Pending { number, new, .. } = self.phase else {
+            return Ack::Idle;
+        };
+        if older > 0 {
+            return Ack::Busy { older };
+        }
+        let left = self.core.left();
+        if left > 0 {
+            return Ack::Behind { left };
+        }
+        self.core.settle();
+        self.phase = Phase::Settled {
+            number,
+            version: new,
+        };
+        add(&mut self.entries, Entry::Ack { number });
+        Ack::Done(Receipt {
+            manager: self.manager,
+            number,
+        })
+    }
+
+    /// Where the policy change stands.
+    pub fn phase(&self) -> Phase
+        ensures { result ≡ self.now.phase }
+    {
+        self.phase
+    }
+
+    /// The history, oldest entry first. It is lawful from the core's opening, state and phase are the replay of it,
+    /// revocation holds in it, and each denial in it is just.
+    pub fn entries(&self) -> &[Entry<C::Call, C::Reply>]
+        ensures value { result.now ≡ self.now.history }
+        ensures lawful { IsLawful C.plain C.formed (D.decides self.now.decider) (start_of (C.opening self.now.core)) self.now.history }
+        ensures replayed { replay C.plain (D.decides self.now.decider) (start_of (C.opening self.now.core)) self.now.history
+            ≡ moment (C.state self.now.core) self.now.phase }
+        ensures revocation { RevocationHolds (D.decides self.now.decider) (Phase.Settled 0 0) self.now.history }
+        ensures denials { DenialsAreJust C.denial_of (D.decides self.now.decider) (Phase.Settled 0 0) self.now.history }
+    {
+        self.entries.as_slice()
     }
 }
