@@ -6,6 +6,7 @@ use Rattle.std.specs.FinMap as maps
 use Rattle.std.specs.FinMap.{FinMap}
 use Rattle.access_vectors.specs.Decisions.{Decisions}
 use Rattle.access_vectors.specs.Mapped.{mapped}
+use Rattle.access_vectors.specs.Phases.{MayName}
 use Rattle.access_vectors.specs.declared.class.Class.{Class}
 use Rattle.access_vectors.specs.declared.phase.Phase.{Phase}
 use Rattle.access_vectors.specs.declared.phase.Phase.TheVariants.{Settled, Pending}
@@ -17,6 +18,10 @@ slot_place client slot = 256 * client + slot
 -- the policy number that each used slot follows, by its place
 abbrev pub Follows : Type 0
 Follows = FinMap nat_cmp ℕ
+
+-- every used slot follows a policy number that an operation may name
+abbrev pub AreNamed : Phase → Follows → Type 0
+AreNamed phase follows = (place number : ℕ) → maps.get follows place ≡ Some number → MayName phase number
 
 -- the identifiers of the client and of the object that a slot holds
 pub record Pair : Type 0 where

@@ -5,7 +5,7 @@ ghost use Rattle.access_vectors.specs.Phases.{number_of, version_at, MayName, is
 ghost use Rattle.access_vectors.specs.declared.class.Class.{Class};
 ghost use Rattle.access_vectors.specs.declared.phase.Phase.{Phase};
 ghost use Rattle.manager_history.specs.Answers.{Manager, Denial, IsHonest};
-ghost use Rattle.manager_history.specs.Stale.{Follows, Pair, stale_slots, now_following, all_following, is_use_following};
+ghost use Rattle.manager_history.specs.Stale.{Follows, Pair, AreNamed, stale_slots, now_following, all_following, is_use_following};
 
 use access_vectors::{Asker, Decider, Phase, Questions, Steps};
 use flask_sid::Memory;
@@ -77,13 +77,13 @@ pub trait Core {
         requires formed { formed (A.decides asker.old) (state self.old) caller call.now }
         requires named { MayName (phase self.old) number }
         requires version { A.version asker.old ≡ version_at (phase self.old) number }
-        requires unasked { asked.old ≡ [] }
+        requires none_asked { asked.old ≡ [] }
         ensures reply { IfOk result (λ replies. replies.0 ≡ (plain (A.decides asker.old) (state self.old) caller call.now number (A.version asker.old)).reply) }
         ensures twice { IfOk result (λ replies. replies.1 ≡ replies.0) }
         ensures state { OnOk result (state self.new ≡ (plain (A.decides asker.old) (state self.old) caller call.now number (A.version asker.old)).state) }
         ensures asked { OnOk result (asked.new ≡ (plain (A.decides asker.old) (state self.old) caller call.now number (A.version asker.old)).asked) }
         ensures follows { IfOk result (λ replies. follows self.new ≡ followed (state self.old) caller call.now number replies.0 (follows self.old)) }
-        ensures unasked { IfOk result (λ replies. is_some (denial_of replies.0) ≡ false
+        ensures asks_nothing { IfOk result (λ replies. is_some (denial_of replies.0) ≡ false
             → is_use_following (use_of caller call.now) (follows self.old) number ≡ true
             → A.asks asker.new ≡ A.asks asker.old) }
         ensures keys { OnOk result (A.keys asker.new ≡ (if is_use_following (use_of caller call.now) (follows self.old) number
@@ -159,4 +159,7 @@ pub trait Core {
     /// differ.
     ghost are_stale: { (d : Decisions) (core : Self) → fits d core
         → stale core ≡ stale_slots d class (phase core) (pair_of (state core)) (follows core) };
+
+    /// Every used slot follows a policy number that may be named: the settled one where nothing is pending.
+    ghost are_named: { (d : Decisions) (core : Self) → fits d core → AreNamed (phase core) (follows core) };
 }

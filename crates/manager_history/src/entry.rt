@@ -1,3 +1,4 @@
+use crate::core_trait::Core;
 use access_vectors::Questions;
 
 /// An entry of a manager's history: an operation of a caller with its questions and its reply, the notice of a
@@ -20,3 +21,6 @@ pub enum Entry<K, R> {
         number: u32,
     },
 }
+
+/// The history of a manager with that core, oldest entry first. Contracts see the list of its entries.
+pub type History<'h, C> = &'h [Entry<<C as Core>::Call, <C as Core>::Reply>];

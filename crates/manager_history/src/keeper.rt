@@ -2,7 +2,7 @@ ghost use Rattle.std.specs.Prelude.{◌≡◌, ◌+◌, ◌<◌, ◌≤◌, true
 
 use crate::answers::{Ack, NotifyFault, Receipt};
 use crate::core_trait::Core;
-use crate::entry::Entry;
+use crate::entry::{Entry, History};
 use access_vectors::{Asker, Decider, Phase, Questions, Steps};
 use flask_sid::Memory;
 use std::alloc::Global;
@@ -56,12 +56,12 @@ impl<'d, C: Core, D: Decider> Model for Keeper<'d, C, D> {
 }
 
 impl<'d, C: Core, D: Decider> Keeper<'d, C, D> {
-    ghost use Rattle.std.specs.Prelude.{◌≡◌, ◌+◌, ◌<◌, ◌≤◌, true, false, min, [], ◌∷◌, ◌++◌, length, take, drop, Option, None, is_some, IsTrue, IfOk, IfErr, OnOk, OnErr, if◌then◌else◌};
+    ghost use Rattle.std.specs.Prelude.{◌≡◌, ◌+◌, ◌<◌, ◌≤◌, true, false, min, [], ◌∷◌, ◌++◌, length, take, drop, Option, None, is_some, ◌⊎◌, IsTrue, IfOk, IfErr, OnOk, OnErr, if◌then◌else◌};
     ghost use Rattle.access_vectors.specs.Asking.{with_keys_of};
     ghost use Rattle.access_vectors.specs.Phases.{number_of, version_at, MayName, noticed, is_pending, acknowledged};
     ghost use Rattle.manager_history.specs.Histories.{moment, answer_at, start_of, replay, IsLawful};
     ghost use Rattle.manager_history.specs.Laws.{RevocationHolds, DenialsAreJust};
-    ghost use Rattle.manager_history.specs.Stale.{now_following, all_following, is_use_following};
+    ghost use Rattle.manager_history.specs.Stale.{AreNamed, stale_slots, now_following, all_following, is_use_following};
     ghost use Rattle.manager_history.specs.Kept.{notice_fault, IsRefusal, ack_answer, is_done};
 
     /// A core with an empty history, settled at number 0 with version 0. It takes no memory.
@@ -107,7 +107,7 @@ impl<'d, C: Core, D: Decider> Keeper<'d, C, D> {
             OnOk result (C.state self.new.core ≡ (answer_at C.plain (D.decides self.old.decider) at caller call number).state) }
         ensures follows { IfOk result (λ reply. C.follows self.new.core
             ≡ C.followed (C.state self.old.core) caller call number reply (C.follows self.old.core)) }
-        ensures unasked { IfOk result (λ reply. is_some (C.denial_of reply) ≡ false
+        ensures asks_nothing { IfOk result (λ reply. is_some (C.denial_of reply) ≡ false
             → is_use_following (C.use_of caller call) (C.follows self.old.core) number ≡ true
             → A.asks asker.new ≡ A.asks asker.old) }
         ensures keys { let at = moment (C.state self.old.core) self.old.phase in
@@ -149,6 +149,7 @@ impl<'d, C: Core, D: Decider> Keeper<'d, C, D> {
         ensures number { IfOk result (λ number. number ≡ number_of self.old.phase + 1) }
         ensures added { IfOk result (λ number. self.new.history ≡ self.old.history ++ Entry.Notice number ver ∷ []) }
         ensures phase { IfOk result (λ number. self.new.phase ≡ noticed self.old.phase number ver) }
+        ensures as_before { IfErr result (λ fault. (fault ≡ NotifyFault.Memory) ⊎ (self.new ≡ self.old)) }
         ensures history_after_refusal { OnErr result (self.new.history ≡ self.old.history) }
         ensures phase_after_refusal { OnErr result (self.new.phase ≡ self.old.phase) }
         ensures stale_after_refusal { OnErr result (C.stale self.new.core ≡ C.stale self.old.core) }
@@ -217,9 +218,7 @@ impl<'d, C: Core, D: Decider> Keeper<'d, C, D> {
         ensures added { IsTrue (is_done result) → self.new.history ≡ self.old.history ++ Entry.Ack (number_of self.old.phase) ∷ [] }
         ensures settled { IsTrue (is_done result) → self.new.phase ≡ acknowledged self.old.phase }
         ensures follows { IsTrue (is_done result) → C.follows self.new.core ≡ all_following (number_of self.old.phase) (C.follows self.old.core) }
-        ensures history_before { is_done result ≡ false → self.new.history ≡ self.old.history }
-        ensures phase_before { is_done result ≡ false → self.new.phase ≡ self.old.phase }
-        ensures follows_before { is_done result ≡ false → C.follows self.new.core ≡ C.follows self.old.core }
+        ensures as_before { is_done result ≡ false → self.new ≡ self.old }
         ensures state { C.state self.new.core ≡ C.state self.old.core }
         ensures decider { self.new.decider ≡ self.old.decider }
         ensures manager { self.new.manager ≡ self.old.manager }
@@ -255,14 +254,17 @@ impl<'d, C: Core, D: Decider> Keeper<'d, C, D> {
     }
 
     /// The history, oldest entry first. It is lawful from the core's opening, state and phase are the replay of it,
-    /// revocation holds in it, and each denial in it is just.
-    pub fn entries(&self) -> &[Entry<C::Call, C::Reply>]
+    /// revocation holds in it, and each denial in it is just. The core's stale slots are those of the definition, and every
+    /// used slot follows a policy number that may be named: the settled one where nothing is pending.
+    pub fn entries(&self) -> History<'_, C>
         ensures value { result.now ≡ self.now.history }
         ensures lawful { IsLawful C.plain C.formed (D.decides self.now.decider) (start_of (C.opening self.now.core)) self.now.history }
         ensures replayed { replay C.plain (D.decides self.now.decider) (start_of (C.opening self.now.core)) self.now.history
             ≡ moment (C.state self.now.core) self.now.phase }
         ensures revocation { RevocationHolds (D.decides self.now.decider) (Phase.Settled 0 0) self.now.history }
         ensures denials { DenialsAreJust C.denial_of (D.decides self.now.decider) (Phase.Settled 0 0) self.now.history }
+        ensures stale { C.stale self.now.core ≡ stale_slots (D.decides self.now.decider) C.class self.now.phase (C.pair_of (C.state self.now.core)) (C.follows self.now.core) }
+        ensures follows { AreNamed self.now.phase (C.follows self.now.core) }
     {
         self.entries.as_slice()
     }

@@ -13,6 +13,6 @@ mod passes;
 
 pub use answers::{Ack, NotifyFault, Receipt};
 pub use core_trait::Core;
-pub use entry::Entry;
+pub use entry::{Entry, History};
 pub use keeper::Keeper;
 pub use passes::Passes;
