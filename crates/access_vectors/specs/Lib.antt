@@ -4,3 +4,4 @@ pub mod Vectors
 pub mod Decisions
 pub mod Asking
 pub mod Phases
+pub mod Mapped
