@@ -45,8 +45,8 @@ allowed attributes above s t class index = has-where 16 (is_allowed attributes a
 pub silent_more : (attributes : List AttributeLine) (above : List RuleLine) (rule : RuleLine) (s t : List ℕ) (class : Class) → ((index : ℕ) → says_of attributes s t class index rule ≡ None) → decided_vector attributes (above ++ rule ∷ []) s t class ≡ decided_vector attributes above s t class
 silent_more attributes above rule s t class none =
     same_from_has _ _ (λ index. allowed_more attributes above rule s t class index
-        ∙ ap (λ said. ltb index 16 && unwrap_or (or_else said (last_said (says_of attributes s t class index) above)) false) (none index)
-        ∙ sym (allowed attributes above s t class index))
+    ∙ ap (λ said. ltb index 16 && unwrap_or (or_else said (last_said (says_of attributes s t class index) above)) false) (none index)
+    ∙ sym (allowed attributes above s t class index))
 
 -- a line that does not match
 pub unmatched_more : (attributes : List AttributeLine) (above : List RuleLine) (rule : RuleLine) (s t : List ℕ) (class : Class) → matches attributes rule s t class ≡ false → decided_vector attributes (above ++ rule ∷ []) s t class ≡ decided_vector attributes above s t class
@@ -86,27 +86,27 @@ pub allow_more : (attributes : List AttributeLine) (above : List RuleLine) (rule
 unfolding says_of verdict_on
 allow_more attributes above rule s t class perms matched verdict small =
     same_from_has _ _ (λ index.
-        let before = last_said (says_of attributes s t class index) above in
-        let speaks : says_of attributes s t class index rule ≡ cond (has perms index) (Some true) None = rw (matched, verdict) refl in
-        let over : ltb index 16 ≡ false → has perms index ≡ false = λ high. has-above perms index small (ltb-false index 16 high) in
-        allowed_more attributes above rule s t class index
-        ∙ ap (λ said. ltb index 16 && unwrap_or (or_else said before) false) speaks
-        ∙ allow_step (ltb index 16) (has perms index) before over
-        ∙ ap (λ had. had || has perms index) (sym (allowed attributes above s t class index))
-        ∙ sym (has-or (decided_vector attributes above s t class) perms index))
+    let before = last_said (says_of attributes s t class index) above in
+    let speaks : says_of attributes s t class index rule ≡ cond (has perms index) (Some true) None = rw (matched, verdict) refl in
+    let over : ltb index 16 ≡ false → has perms index ≡ false = λ high. has-above perms index small (ltb-false index 16 high) in
+    allowed_more attributes above rule s t class index
+    ∙ ap (λ said. ltb index 16 && unwrap_or (or_else said before) false) speaks
+    ∙ allow_step (ltb index 16) (has perms index) before over
+    ∙ ap (λ had. had || has perms index) (sym (allowed attributes above s t class index))
+    ∙ sym (has-or (decided_vector attributes above s t class) perms index))
 
 -- a `withhold` line that matches
 pub withhold_more : (attributes : List AttributeLine) (above : List RuleLine) (rule : RuleLine) (s t : List ℕ) (class : Class) (perms : ℕ) → matches attributes rule s t class ≡ true → rule.verdict ≡ Withhold perms → decided_vector attributes (above ++ rule ∷ []) s t class ≡ bit_xor (decided_vector attributes above s t class) (bit_and (decided_vector attributes above s t class) perms)
 unfolding says_of verdict_on
 withhold_more attributes above rule s t class perms matched verdict =
     same_from_has _ _ (λ index.
-        let before = last_said (says_of attributes s t class index) above in
-        let speaks : says_of attributes s t class index rule ≡ cond (has perms index) (Some false) None = rw (matched, verdict) refl in
-        allowed_more attributes above rule s t class index
-        ∙ ap (λ said. ltb index 16 && unwrap_or (or_else said before) false) speaks
-        ∙ withhold_step (ltb index 16) (has perms index) before
-        ∙ ap (λ had. had && not (has perms index)) (sym (allowed attributes above s t class index))
-        ∙ sym (has-out (decided_vector attributes above s t class) perms index))
+    let before = last_said (says_of attributes s t class index) above in
+    let speaks : says_of attributes s t class index rule ≡ cond (has perms index) (Some false) None = rw (matched, verdict) refl in
+    allowed_more attributes above rule s t class index
+    ∙ ap (λ said. ltb index 16 && unwrap_or (or_else said before) false) speaks
+    ∙ withhold_step (ltb index 16) (has perms index) before
+    ∙ ap (λ had. had && not (has perms index)) (sym (allowed attributes above s t class index))
+    ∙ sym (has-out (decided_vector attributes above s t class) perms index))
 
 -- no rule line allows anything
 pub none_allowed : (attributes : List AttributeLine) (s t : List ℕ) (class : Class) → decided_vector attributes [] s t class ≡ 0

@@ -85,13 +85,13 @@ unfoldable pub label_of : PolicyParts → ℕ → ContextOf (List ℕ) → Conte
 label_of policy version s t class = record {
   user = s.user;
   role = if takes_after_maker class then s.role else object_role;
-  kind = unwrap_or (given_kind labelling.Transition policy version s.kind t.kind class) (if takes_after_maker class then s.kind else t.kind)
+  kind = unwrap_or (given_kind labelling.Transition policy version s.kind t.kind class) (if takes_after_maker class then s.kind else t.kind);
 }
 
 -- the member of t that s is led to: of the type of the last matching `member` line, and without one t itself
 unfoldable pub member_of : PolicyParts → ℕ → ContextOf (List ℕ) → ContextOf (List ℕ) → Class → ContextOf (List ℕ)
 member_of policy version s t class = led_to (given_kind labelling.Member policy version s.kind t.kind class)
- where
-  led_to : Option (List ℕ) → ContextOf (List ℕ)
-  led_to None = t
-  led_to (Some kind) = record { user = s.user; role = object_role; kind = kind }
+  where
+    led_to : Option (List ℕ) → ContextOf (List ℕ)
+    led_to None = t
+    led_to (Some kind) = record { user = s.user; role = object_role; kind = kind }

@@ -5,3 +5,4 @@ pub mod Grammar
 pub mod Reading
 pub mod Matching
 pub mod Deciding
+pub mod Example

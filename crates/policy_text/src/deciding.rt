@@ -38,7 +38,14 @@ impl PolicyParts {
     }
 
     // The vector of rule lines and one more, by that of the lines above it.
-    fn below_rule(&self, vector: Vector, rule: &RuleLine, s: &[u8], t: &[u8], class: Class) -> Vector
+    fn below_rule(
+        &self,
+        vector: Vector,
+        rule: &RuleLine,
+        s: &[u8],
+        t: &[u8],
+        class: Class,
+    ) -> Vector
         ensures { (above : List RuleLine)
             → vector ≡ Deciding.decided_vector self.now.attributes above s.now t.now class
             → result ≡ Deciding.decided_vector self.now.attributes (above ++ rule.now ∷ []) s.now t.now class }

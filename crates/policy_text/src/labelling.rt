@@ -12,10 +12,23 @@ use std::alloc::Global;
 impl PolicyParts {
     /// The label of a new object of a class that `s` makes at `t`, in a version.
     #[tactic(auto, unfolding(crate::specs::Deciding::label_of))]
-    pub fn label_of(&self, alloc: Global, version: u8, s: &Context, t: &Context, class: Class) -> Result<Context, Memory>
+    pub fn label_of(
+        &self,
+        alloc: Global,
+        version: u8,
+        s: &Context,
+        t: &Context,
+        class: Class,
+    ) -> Result<Context, Memory>
         ensures { IfOk result (λ label. label ≡ Deciding.label_of self.now version s.now t.now class) }
     {
-        let given = self.given_kind(Labelling::Transition, version, s.kind.as_bytes(), t.kind.as_bytes(), class);
+        let given = self.given_kind(
+            Labelling::Transition,
+            version,
+            s.kind.as_bytes(),
+            t.kind.as_bytes(),
+            class,
+        );
         if takes_after_maker(class) {
             let kind = given.unwrap_or(&s.kind).copy(alloc)?;
             Ok(ContextOf {
@@ -35,10 +48,23 @@ impl PolicyParts {
 
     /// The member of `t` that `s` is led to as to an object of a class, in a version.
     #[tactic(auto, unfolding(crate::specs::Deciding::member_of))]
-    pub fn member_of(&self, alloc: Global, version: u8, s: &Context, t: &Context, class: Class) -> Result<Context, Memory>
+    pub fn member_of(
+        &self,
+        alloc: Global,
+        version: u8,
+        s: &Context,
+        t: &Context,
+        class: Class,
+    ) -> Result<Context, Memory>
         ensures { IfOk result (λ member. member ≡ Deciding.member_of self.now version s.now t.now class) }
     {
-        match self.given_kind(Labelling::Member, version, s.kind.as_bytes(), t.kind.as_bytes(), class) {
+        match self.given_kind(
+            Labelling::Member,
+            version,
+            s.kind.as_bytes(),
+            t.kind.as_bytes(),
+            class,
+        ) {
             None => Ok(ContextOf {
                 user: t.user.copy(alloc)?,
                 role: t.role.copy(alloc)?,
@@ -54,7 +80,14 @@ impl PolicyParts {
 
     // The type that the last matching line of a kind gives.
     #[tactic(auto, unfolding(crate::specs::Deciding::given_kind))]
-    fn given_kind(&self, labelling: Labelling, version: u8, s: &[u8], t: &[u8], class: Class) -> Option<&Name>
+    fn given_kind(
+        &self,
+        labelling: Labelling,
+        version: u8,
+        s: &[u8],
+        t: &[u8],
+        class: Class,
+    ) -> Option<&Name>
         ensures { option_copied result
             ≡ Deciding.given_kind labelling self.now version s.now t.now class }
     {
@@ -67,11 +100,22 @@ impl PolicyParts {
     }
 
     #[tactic(auto, unfolding(crate::specs::Deciding::gives_kind))]
-    fn gives_kind<'a>(&self, labelling: Labelling, rule: &'a RuleLine, s: &[u8], t: &[u8], class: Class) -> Option<&'a Name>
+    fn gives_kind<'a>(
+        &self,
+        labelling: Labelling,
+        rule: &'a RuleLine,
+        s: &[u8],
+        t: &[u8],
+        class: Class,
+    ) -> Option<&'a Name>
         ensures { option_copied result
             ≡ Deciding.gives_kind labelling self.now.attributes s.now t.now class rule.now }
     {
-        if self.matches(rule, s, t, class) { kind_given(labelling, &rule.verdict) } else { None }
+        if self.matches(rule, s, t, class) {
+            kind_given(labelling, &rule.verdict)
+        } else {
+            None
+        }
     }
 }
 

@@ -8,6 +8,7 @@
 mod above;
 mod deciding;
 mod declarations;
+mod example;
 mod form;
 mod known;
 mod labelling;
@@ -16,12 +17,15 @@ mod matching;
 mod policy;
 mod reader;
 mod rules;
+mod text;
 
+pub use example::smallest;
 pub use policy::{
     AttributeLine, ContextLine, KindLine, Pattern, PolicyParts, RuleLine, Verdict, Version, Who,
     WhoOf,
 };
 pub use reader::{PolicyReader, read};
+pub use text::PolicyText;
 pub use text_lines::FaultKind;
 
 /// Why a policy text is refused.

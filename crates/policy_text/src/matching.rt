@@ -62,10 +62,9 @@ impl PolicyParts {
     fn is_in(&self, name: &Name, kind: &[u8]) -> bool
         ensures { result ≡ Matching.is_in self.now.attributes name.now kind.now }
     {
-        self.attributes
-            .as_slice()
-            .iter()
-            .any(|attribute| attribute.name.as_bytes() == name.as_bytes() && has_member(attribute, kind))
+        self.attributes.as_slice().iter().any(|attribute| attribute.name.as_bytes()
+            == name.as_bytes()
+            && has_member(attribute, kind))
     }
 }
 

@@ -7,6 +7,7 @@ ghost use Rattle.policy_text.specs.Reading.{begun, read_on};
 
 use crate::line::line_read;
 use crate::policy::PolicyParts;
+use crate::text::PolicyText;
 use std::alloc::Global;
 use std::marker::Model;
 use text_lines::{FaultKind, Refusal, TextFault, first_line};
@@ -66,14 +67,14 @@ impl PolicyReader {
 
     /// The policy of a text that ends here. `Ended` exactly where it has no context or no version yet.
     #[tactic(auto, unfolding(crate::specs::Grammar::end_read))]
-    pub fn finish(self) -> Result<PolicyParts, TextFault>
+    pub fn finish(self) -> Result<PolicyText, TextFault>
         ensures { GivesText result (Grammar.end_read self.number self.above) }
     {
         let PolicyReader { number, above } = self;
         match above {
             Some(policy) => {
                 if is_whole(&policy) {
-                    Ok(policy)
+                    Ok(PolicyText::of(policy))
                 } else {
                     Err(ended_at(number))
                 }
@@ -100,7 +101,7 @@ fn is_whole(policy: &PolicyParts) -> bool
 }
 
 /// Reads a policy text. Ok exactly where it is one, and else its first faulty line and what is wrong with it.
-pub fn read(alloc: Global, bytes: &[u8]) -> Result<PolicyParts, TextFault>
+pub fn read(alloc: Global, bytes: &[u8]) -> Result<PolicyText, TextFault>
     ensures { GivesText result (Grammar.policy_of bytes.now) }
 {
     let mut reader = PolicyReader::new();
