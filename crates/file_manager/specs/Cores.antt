@@ -1,5 +1,6 @@
 -- How the manager's own state shows the plain one: it numbers the nodes, and a slot names a node by its number.
 use Rattle.std.specs.Prelude.{ℕ, ◌*◌, ◌<◌, ◌≡◌, List, [], length, map, slice_get, All, Option, Some, None, option_map}
+use Rattle.access_vectors.specs.declared.phase.Phase.{Phase}
 use Rattle.file_manager.specs.Plain.{Held, FileState, at_place, node_of}
 use Rattle.file_manager.specs.declared.opening.Node.{Node}
 use Rattle.file_manager.specs.declared.opening.FileOpening.{FileOpening}
@@ -34,6 +35,11 @@ IsSlot nodes (Some held) = IsNodeOf nodes (path_at nodes held.node) held.node
 pub record IsCore (opening : FileOpening) (slots : List (Option HeldFile)) : Type 0 where
   pub places : length slots ≡ 64 * length opening.clients
   pub held : All (IsSlot opening.nodes) slots
+
+-- what contracts see of a manager's state: the plain state, and where the policy change stands
+pub record Shown : Type 0 where
+  pub plain : FileState
+  pub phase : Phase
 
 -- what a place holds, by its number of the node
 abbrev pub IsHeld : FileState → ℕ → Option HeldFile → Type 0

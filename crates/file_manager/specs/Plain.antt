@@ -7,6 +7,7 @@ use Rattle.access_vectors.specs.Vectors.{has}
 use Rattle.access_vectors.specs.Decisions.{Decisions}
 use Rattle.access_vectors.specs.Asking.{question}
 use Rattle.access_vectors.specs.declared.asked.Asked.{Asked}
+use Rattle.manager_history.specs.Answers.{Answer, Denial}
 use Rattle.file_manager.specs.Paths.{same_path}
 use Rattle.file_manager.specs.declared.opening.Node.{Node}
 use Rattle.file_manager.specs.declared.opening.FileOpening.{FileOpening}
@@ -26,10 +27,8 @@ pub record FileState : Type 0 where
   pub slots : List (Option Held)
 
 -- the reply to a call, the state that it leaves, and the questions that it asked, up to the first no
-pub record FileAnswer : Type 0 where
-  pub reply : FileReply
-  pub state : FileState
-  pub asked : List Asked
+abbrev pub FileAnswer : Type 0
+FileAnswer = Answer FileReply FileState
 
 -- where a client's slot stands
 abbrev pub place : ℕ → ℕ → ℕ
@@ -94,13 +93,14 @@ asking_mode d version s t mode (perm ∷ perms) =
 abbrev pub mode_perms : List Permission
 mode_perms = file_read ∷ file_write ∷ file_append ∷ []
 
+-- a denial after these questions, or else the rest
+abbrev pub denied_or : FileState → ℕ → List Asked → FileAnswer → Option Permission → FileAnswer
+denied_or state number asked rest (Some perm) = record { reply = Denied perm number; state = state; asked = asked }
+denied_or state number asked rest None = record { reply = rest.reply; state = rest.state; asked = asked ++ rest.asked }
+
 -- what is done where no permission of the mode was denied
 abbrev pub after_asking : FileState → ℕ → Asking → FileAnswer → FileAnswer
-after_asking state number asking rest = decided asking.denied
-  where
-    decided : Option Permission → FileAnswer
-    decided (Some perm) = record { reply = Denied perm number; state = state; asked = asking.asked }
-    decided None = record { reply = rest.reply; state = rest.state; asked = asking.asked ++ rest.asked }
+after_asking state number asking rest = denied_or state number asking.asked rest asking.denied
 
 -- the slot at a place is filled
 abbrev pub filled : FileState → ℕ → List (List ℕ) → ℕ → FileAnswer
@@ -111,25 +111,27 @@ filled state at path mode =
       asked = [];
     }
 
--- opening a node that the walk found: each permission of the mode is asked, in the order read, write, append
+-- opening what a found node has: for a file each permission of the mode is asked, in the order read, write, append
+abbrev pub opened_file : Decisions → FileState → ℕ → ℕ → ℕ → ℕ → List (List ℕ) → ℕ → ℕ → Option (List ℕ) → FileAnswer
+opened_file d state s number version at path mode label None = saying state IsDir
+opened_file d state s number version at path mode label (Some bytes) =
+    after_asking state number (asking_mode d version s label mode mode_perms) (filled state at path mode)
+
+-- opening what the look-up found
 abbrev pub opened : Decisions → FileState → ℕ → ℕ → ℕ → ℕ → List (List ℕ) → ℕ → Option Node → FileAnswer
 opened d state s number version at path mode None = saying state NotFound
-opened d state s number version at path mode (Some node) = opened_file node.bytes
-  where
-    opened_file : Option (List ℕ) → FileAnswer
-    opened_file None = saying state IsDir
-    opened_file (Some bytes) =
-        after_asking state number (asking_mode d version s node.sid mode mode_perms) (filled state at path mode)
+opened d state s number version at path mode (Some node) = opened_file d state s number version at path mode node.sid node.bytes
 
--- open: SlotUsed; then the root is searched for the path's one name; then the node is opened
+-- opening into what a place holds: it has to be free, and then the root is searched for the path's one name
+abbrev pub open_into : Decisions → FileState → ℕ → ℕ → ℕ → ℕ → List (List ℕ) → ℕ → Option Held → FileAnswer
+open_into d state s number version at path mode (Some held) = saying state SlotUsed
+open_into d state s number version at path mode None =
+    asking state number (question d version s state.opening.root dir_search)
+      (opened d state s number version at path mode (node_of state.opening.nodes path))
+
+-- open: SlotUsed; the root is searched; NotFound; IsDir; each permission of the mode
 abbrev pub open_row : Decisions → FileState → ℕ → ℕ → ℕ → ℕ → List (List ℕ) → ℕ → FileAnswer
-open_row d state s number version at path mode = open_at (at_place state.slots at)
-  where
-    open_at : Option Held → FileAnswer
-    open_at (Some held) = saying state SlotUsed
-    open_at None =
-        asking state number (question d version s state.opening.root dir_search)
-        (opened d state s number version at path mode (node_of state.opening.nodes path))
+open_row d state s number version at path mode = open_into d state s number version at path mode (at_place state.slots at)
 
 -- read: BadSlot; BadMode where the mode lacks read; then the bytes from the offset on, at most so many of them
 abbrev pub read_row : FileState → Option Held → ℕ → ℕ → FileAnswer
@@ -158,3 +160,8 @@ IsFormed state caller (ReadFile slot offset most) = (caller < length state.openi
 abbrev pub IsOpening : Decisions → FileOpening → Type 0
 IsOpening d opening =
     All (λ sid. IsTrue (d.known sid)) opening.clients × IsTrue (d.known opening.root) × All (λ node. IsTrue (d.known node.sid)) opening.nodes
+
+-- the denial that a reply is, if it is one
+abbrev pub denial_of : FileReply → Option Denial
+denial_of (Denied perm number) = Some (record { perm = perm; policy = number })
+denial_of reply = None

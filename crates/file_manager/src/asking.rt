@@ -1,4 +1,5 @@
 ghost use Rattle.std.specs.Prelude.{◌≡◌, ◌++◌, IsTrue, IfOk, OnOk};
+ghost use Rattle.access_vectors.specs.Asking.{with_keys_of};
 ghost use Rattle.file_manager.specs.Plain.{asking_mode};
 
 use access_vectors::perms::{FILE_APPEND, FILE_READ, FILE_WRITE};
@@ -24,6 +25,8 @@ pub fn ask_mode<A: Asker>(
         denied ≡ (asking_mode (A.decides asker.old) (A.version asker.old) s t mode perms.now).denied) }
     ensures added { OnOk result (asked.new
         ≡ asked.old ++ (asking_mode (A.decides asker.old) (A.version asker.old) s t mode perms.now).asked) }
+    ensures keys { OnOk result (A.keys asker.new
+        ≡ with_keys_of (A.keys asker.old) (asking_mode (A.decides asker.old) (A.version asker.old) s t mode perms.now).asked) }
     ensures same { A.same asker.old asker.new }
     ensures decides { A.decides asker.new ≡ A.decides asker.old }
     ensures version { A.version asker.new ≡ A.version asker.old }

@@ -1,63 +1,79 @@
-ghost use Rattle.std.specs.Prelude.{◌≡◌, ◌<◌, [], length, take, drop, replicate, slice_get, unwrap_or, option_map, IsTrue, IfOk, IfSome};
-ghost use Rattle.std.specs.List.{position};
-ghost use Rattle.file_manager.specs.Paths.{same_path};
-ghost use Rattle.file_manager.specs.Plain.{answer, opened_with, filled, IsFormed, IsOpening};
-ghost use Rattle.file_manager.specs.Plain;
-ghost use Rattle.file_manager.specs.declared.call.FileReply.{FileReply};
-ghost use Rattle.file_manager.specs.Serving.{Serves, Says};
-ghost use Rattle.file_manager.specs.Cores.{IsHeld, IsNodeOf};
+ghost use Rattle.std.specs.Prelude.{◌≡◌, ◌<◌, length, IfOk};
+ghost use Rattle.access_vectors.specs.declared.phase.Phase.{Phase};
+ghost use Rattle.file_manager.specs.Plain.{opened_with};
 
-use crate::asking::{MODE_PERMS, ask_mode};
 use crate::call::{FileCall, FileReply};
-use crate::held_file::HeldFile;
-use crate::opening::{FileOpening, Node};
-use crate::path::FilePath;
-use access_vectors::perms::{DIR_SEARCH, FILE_READ};
-use access_vectors::{Asker, Perm, Questions, Vector, ask};
-use flask_sid::{Memory, Piece, Sid};
+use crate::files::{self, Files};
+use crate::opening::FileOpening;
+use access_vectors::{Asker, Decider, Phase, Questions, Steps};
+use flask_sid::Memory;
+use manager_history::Core;
 use std::alloc::Global;
-use std::marker::Model;
+use std::sync::ledger::Ledger;
 
-/// A file manager's state. Contracts see the plain manager's.
+/// The file manager as a core of histories. In this form a right that is held in a slot is usable as it was opened:
+/// a read tests the slot alone, so no slot is ever stale.
 #[derive(Debug, Drop)]
 pub struct FileCore {
-    opening: FileOpening,
-    slots: Vec<Option<HeldFile>>,
+    files: Files,
+    phase: Phase,
 }
 
-impl Model for FileCore {
-    ghost use Rattle.file_manager.specs.Plain.{FileState};
-    ghost use Rattle.file_manager.specs.Cores.{plain_slots, IsCore};
-
-    ghost Value = { FileState };
-
-    ghost view = { λ core. record { opening = core.opening; slots = plain_slots core.opening.nodes core.slots.items } };
-
-    ghost invariant = { λ core. IsCore core.opening core.slots.items };
-}
-
-/// The core that an opening gives, with every slot free.
+/// The core that an opening gives: every slot is free, and the policy is settled at number 0 with version 0.
 pub fn new(alloc: Global, opening: FileOpening) -> Result<FileCore, Memory>
     requires { length opening.clients < 256 }
-    ensures { IfOk result (λ core. core ≡ opened_with opening) }
+    ensures { IfOk result (λ core. core ≡ record { files = opened_with opening; phase = Phase.Settled 0 0 }) }
 {
-    let slots = free_slots(alloc, 64 * opening.clients.len())?;
-    Ok(FileCore { opening, slots })
+    let files = files::new(alloc, opening)?;
+    Ok(FileCore {
+        files,
+        phase: Phase::Settled {
+            number: 0,
+            version: 0,
+        },
+    })
 }
 
-fn free_slots(alloc: Global, n: usize) -> Result<Vec<Option<HeldFile>>, Memory>
-    ensures { IfOk result (λ slots. slots.items ≡ replicate n None) }
-{
-    let mut slots = Vec::new(alloc);
-    slots.resize(n, None)?;
-    Ok(slots)
-}
+impl Core for FileCore {
+    ghost use Rattle.std.specs.Prelude.{[], Some, None};
+    ghost use Rattle.access_vectors.specs.declared.class.Class.TheVariants.{File};
+    ghost use Rattle.file_manager.specs.Plain as plainly;
+    ghost use Rattle.file_manager.specs.Plain.{FileState, IsFormed, IsOpening, opened_with};
+    ghost use Rattle.file_manager.specs.Honest.{honest_answer};
+    ghost use Rattle.access_vectors.specs.NoSlots.{no_follows, none_are_stale, none_named};
 
-impl FileCore {
-    /// Answers a call as the plain manager does, under a policy number and the version at which `asker` asks.
-    /// The two replies are equal: one for the history and one for the caller. After `Memory` the state is as
-    /// before.
-    pub fn call<A: Asker>(
+    type Call = FileCall;
+    type Reply = FileReply;
+
+    ghost State = { FileState };
+
+    ghost opening = { λ core. opened_with core.files.opening };
+
+    ghost state = { λ core. core.files };
+
+    ghost phase = { λ core. core.phase };
+
+    ghost plain = { plainly.answer };
+
+    ghost formed = { λ d state caller call. IsFormed state caller call };
+
+    ghost denial_of = { plainly.denial_of };
+
+    ghost class = { File };
+
+    ghost pair_of = { λ state place. None };
+
+    ghost use_of = { λ caller call. None };
+
+    ghost follows = { λ core. no_follows };
+
+    ghost followed = { λ state caller call number reply follows. no_follows };
+
+    ghost stale = { λ core. [] };
+
+    ghost fits = { λ d core. IsOpening d core.files.opening };
+
+    fn call<A: Asker>(
         &mut self,
         alloc: Global,
         caller: u8,
@@ -65,170 +81,42 @@ impl FileCore {
         number: u32,
         asker: &mut A,
         asked: &mut Questions,
-    ) -> Result<(FileReply, FileReply), Memory>
-        requires opening { IsOpening (A.decides asker.old) self.old.opening }
-        requires formed { IsFormed self.old caller call.now }
-        requires none { asked.old ≡ [] }
-        ensures serves { Serves result self.old self.new asked.new
-            (answer (A.decides asker.old) self.old caller call.now number (A.version asker.old)) }
-        ensures same { A.same asker.old asker.new }
-        ensures decides { A.decides asker.new ≡ A.decides asker.old }
-        ensures version { A.version asker.new ≡ A.version asker.old }
-    {
-        match call {
-            FileCall::OpenFile { slot, path, mode } => {
-                let s = self.opening.clients.as_slice()[usize::from(caller)];
-                let at = place(caller, *slot);
-                self.open(at, s, path, *mode, number, asker, asked)
-            }
-            FileCall::ReadFile {
-                slot,
-                offset,
-                length,
-            } => self.read(alloc, place(caller, *slot), *offset, *length),
-        }
+    ) -> Result<(FileReply, FileReply), Memory> {
+        self.files.call(alloc, caller, call, number, asker, asked)
     }
-}
 
-/// Where a client's slot stands.
-fn place(client: u8, slot: u8) -> usize
-    ensures { result ≡ Plain.place client slot }
-{
-    64 * usize::from(client) + usize::from(slot)
-}
-
-/// The reply of a denied call, for the history and for the caller.
-fn denied(perm: Perm, policy: u32) -> (FileReply, FileReply)
-    ensures history { result.0 ≡ FileReply.Denied perm policy }
-    ensures caller { result.1 ≡ FileReply.Denied perm policy }
-{
-    (
-        FileReply::Denied { perm, policy },
-        FileReply::Denied { perm, policy },
-    )
-}
-
-/// The node of a path, with its place.
-fn find<'a>(nodes: &'a [Node], path: &FilePath) -> Option<(usize, &'a Node)>
-    ensures node { option_map (λ found. found.1.now) result ≡ Plain.node_of nodes.now path.now }
-    ensures at { IfSome result (λ found. IsNodeOf nodes.now path.now found.0) }
-{
-    match place_of(nodes, path) {
-        None => None,
-        Some(at) => Some((at, &nodes[at])),
-    }
-}
-
-/// The first place of a node of this path.
-fn place_of(nodes: &[Node], path: &FilePath) -> Option<usize>
-    ensures { result ≡ position (λ node. same_path node.path path.now) nodes.now }
-{
-    nodes.iter().position(|node| node.path.is(path))
-}
-
-/// At most `most` of the bytes from `offset` on.
-fn part(bytes: &[u8], offset: u32, most: u32) -> &[u8]
-    ensures { result.now ≡ take most (drop offset bytes.now) }
-{
-    let start = bytes.len().min(offset as usize);
-    let (_before, rest) = bytes.split_at(start);
-    let (part, _behind) = rest.split_at(rest.len().min(most as usize));
-    part
-}
-
-impl FileCore {
-    /// Opens a path into a free slot.
-    fn open<A: Asker>(
+    fn start<D: Decider>(
         &mut self,
-        at: usize,
-        s: Sid,
-        path: &FilePath,
-        mode: Vector,
+        _alloc: Global,
+        _decider: &D,
         number: u32,
-        asker: &mut A,
-        asked: &mut Questions,
-    ) -> Result<(FileReply, FileReply), Memory>
-        requires opening { IsOpening (A.decides asker.old) self.old.opening }
-        requires source { IsTrue ((A.decides asker.old).known s) }
-        requires place { at < length self.old.slots }
-        requires none { asked.old ≡ [] }
-        ensures serves { Serves result self.old self.new asked.new
-            (Plain.open_row (A.decides asker.old) self.old s number (A.version asker.old) at path.now mode) }
-        ensures same { A.same asker.old asker.new }
-        ensures decides { A.decides asker.new ≡ A.decides asker.old }
-        ensures version { A.version asker.new ≡ A.version asker.old }
-    {
-        if let Some(_held) = self.held(at) {
-            return Ok((FileReply::SlotUsed, FileReply::SlotUsed));
-        }
-        if !ask(asker, asked, s, self.opening.root, DIR_SEARCH)? {
-            return Ok(denied(DIR_SEARCH, number));
-        }
-        let Some((number_of, node)) = find(self.opening.nodes.as_slice(), path) else {
-            return Ok((FileReply::NotFound, FileReply::NotFound));
-        };
-        let Some(_bytes) = &node.bytes else {
-            return Ok((FileReply::IsDir, FileReply::IsDir));
-        };
-        if let Some(perm) = ask_mode(asker, asked, s, node.sid, mode, &MODE_PERMS)? {
-            return Ok(denied(perm, number));
-        }
-        self.fill(at, number_of, mode, path);
-        Ok((FileReply::Done, FileReply::Done))
+        old: u8,
+        new: u8,
+    ) -> Result<u64, Memory> {
+        self.phase = Phase::Pending { number, old, new };
+        Ok(0)
     }
 
-    /// Reads through a slot.
-    fn read(
-        &self,
-        alloc: Global,
-        at: usize,
-        offset: u32,
-        most: u32,
-    ) -> Result<(FileReply, FileReply), Memory>
-        ensures { Says result (Plain.read_row self.now (Plain.at_place self.now.slots at) offset most) }
-    {
-        let Some(held) = self.held(at) else {
-            return Ok((FileReply::BadSlot, FileReply::BadSlot));
-        };
-        if !held.mode.has(FILE_READ.index()) {
-            return Ok((FileReply::BadMode, FileReply::BadMode));
-        }
-        let bytes = part(self.bytes(held.node), offset, most);
-        let kept = Piece::of(alloc, bytes)?;
-        Ok((
-            FileReply::Bytes(kept),
-            FileReply::Bytes(Piece::of(alloc, bytes)?),
-        ))
+    fn revise<D: Decider, L: Ledger>(&mut self, _decider: &D, _k: u64, _steps: &mut Steps<L>) -> u64 {
+        0
     }
 
-    /// The bytes of a node, none of a directory.
-    fn bytes(&self, at: usize) -> &[u8]
-        requires { at < length self.now.opening.nodes }
-        ensures { IfSome (slice_get self.now.opening.nodes at) (λ node. result.now ≡ unwrap_or node.bytes []) }
-    {
-        let node = &self.opening.nodes.as_slice()[at];
-        match &node.bytes {
-            None => &[],
-            Some(bytes) => bytes.as_bytes(),
+    fn left(&self) -> u64 {
+        0
+    }
+
+    fn settle(&mut self) {
+        if let Phase::Pending { number, new, .. } = self.phase {
+            self.phase = Phase::Settled {
+                number,
+                version: new,
+            };
         }
     }
 
-    /// What a client's slot holds, if anything, with its number of the node.
-    fn held(&self, at: usize) -> Option<HeldFile>
-        ensures { IsHeld self.now at result }
-    {
-        match self.slots.as_slice().get(at) {
-            None => None,
-            Some(slot) => *slot,
-        }
-    }
+    ghost honest = { λ d at caller call number version. honest_answer d at caller call number version };
 
-    /// Fills a free place.
-    fn fill(&mut self, at: usize, node: usize, mode: Vector, path: &FilePath)
-        requires place { at < length self.old.slots }
-        requires node { IsNodeOf self.old.opening.nodes path.now node }
-        ensures { self.new ≡ (filled self.old at path.now mode).state }
-    {
-        self.slots[at] = Some(HeldFile { node, mode });
-    }
+    ghost are_stale = { λ d core fits. none_are_stale d File core.phase (λ place. None) };
+
+    ghost are_named = { λ d core fits. none_named core.phase };
 }

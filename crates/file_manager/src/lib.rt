@@ -7,6 +7,7 @@
 mod asking;
 mod call;
 mod file_core;
+mod files;
 mod held_file;
 mod opening;
 mod path;

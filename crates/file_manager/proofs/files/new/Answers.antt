@@ -1,7 +1,7 @@
 use Rattle.std.proofs.Common.{◌*◌, length, ap, ◌∙◌}
 use Rattle.file_manager.specs.Cores.{plain_slots}
 use Rattle.file_manager.proofs.Slots.{free_shows}
-use Rattle.file_manager.proofs.file_core.new.Goals as goal
+use Rattle.file_manager.proofs.files.new.Goals as goal
 
 pub returns : goal.returns
 returns c =

@@ -1,7 +1,7 @@
 use Rattle.std.proofs.Common.{length, sym, refl, ◌∙◌}
 use Rattle.std.proofs.lemmas.Option.{slice_get_read}
 use Rattle.file_manager.proofs.Finding.{no_node, node_found}
-use Rattle.file_manager.proofs.file_core.find.Goals as goal
+use Rattle.file_manager.proofs.files.find.Goals as goal
 
 pub returns-in-None-clause-node : goal.returns-in-None-clause-node
 returns-in-None-clause-node c = sym (no_node c.args.nodes.now c.args.path.now (sym c.place_of.ensures ∙ c.in-None.is))

@@ -1,6 +1,6 @@
 use Rattle.std.proofs.Common.{ap}
 use Rattle.file_manager.proofs.Slots.{fill_shows}
-use Rattle.file_manager.proofs.file_core.FileCore.fill.Goals as goal
+use Rattle.file_manager.proofs.files.Files.fill.Goals as goal
 
 pub returns : goal.returns
 returns c =
