@@ -5,3 +5,5 @@ pub mod Decisions
 pub mod Asking
 pub mod Phases
 pub mod Mapped
+pub mod Stale
+pub mod NoSlots

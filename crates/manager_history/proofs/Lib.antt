@@ -1,3 +1,2 @@
 pub mod Growing
 pub mod LawLemmas
-pub mod StaleLemmas

@@ -1,5 +1,5 @@
 -- Plain managers: what a call answers, and what it asks.
-use Rattle.std.specs.Prelude.{◌≡◌, ℕ, Bool, true, false, List, [], ◌∷◌, ◌++◌, All, Option, Some, None}
+use Rattle.std.specs.Prelude.{◌≡◌, ℕ, true, false, List, [], ◌∷◌, ◌++◌, All, Option, Some, None}
 use Rattle.access_vectors.specs.Table.{Permission}
 use Rattle.access_vectors.specs.Vectors.{has}
 use Rattle.access_vectors.specs.Decisions.{Decisions}
@@ -42,6 +42,6 @@ AreQuestionsOf (Some denial) number asked = (denial.policy ≡ number) × EndsWi
 
 -- an answer is honest: its questions are answered by the decisions of the version, and they are those of its reply
 pub record IsHonest {Reply State : Type 0} (denial_of : Reply → Option Denial) (d : Decisions) (number version : ℕ)
-  (answer : Answer Reply State) : Type 0 where
+    (answer : Answer Reply State) : Type 0 where
   pub told : All (IsTold d version) answer.asked
   pub ends : AreQuestionsOf (denial_of answer.reply) number answer.asked

@@ -56,7 +56,7 @@ MayAcknowledge (Pending pending old new) number = number ≡ pending
 -- an operation that may stand at a moment: it names a policy number that is in force, its call is well formed, and its
 -- questions and its reply are the plain manager's
 pub record IsServed {Call Reply State : Type 0} (plain : Manager Call Reply State) (formed : Decisions → State → ℕ → Call → Type 0)
-  (d : Decisions) (at : Moment State) (caller : ℕ) (call : Call) (number : ℕ) (asked : List Asked) (reply : Reply) : Type 0 where
+    (d : Decisions) (at : Moment State) (caller : ℕ) (call : Call) (number : ℕ) (asked : List Asked) (reply : Reply) : Type 0 where
   pub named : MayName at.phase number
   pub well_formed : formed d at.state caller call
   pub asked_is : asked ≡ (answer_at plain d at caller call number).asked
@@ -64,13 +64,13 @@ pub record IsServed {Call Reply State : Type 0} (plain : Manager Call Reply Stat
 
 -- an entry may stand at a moment
 abbrev pub MayCome : {Call Reply State : Type 0} → Manager Call Reply State → (Decisions → State → ℕ → Call → Type 0)
-  → Decisions → Moment State → Entry Call Reply → Type 0
+    → Decisions → Moment State → Entry Call Reply → Type 0
 MayCome plain formed d at (Op caller mark call number asked reply) = IsServed plain formed d at caller call number asked reply
 MayCome plain formed d at (Notice number version) = MayNotice d.versions at.phase number version
 MayCome plain formed d at (Ack number) = MayAcknowledge at.phase number
 
 -- each entry may stand where it stands, from that moment on
 abbrev pub IsLawful : {Call Reply State : Type 0} → Manager Call Reply State → (Decisions → State → ℕ → Call → Type 0)
-  → Decisions → Moment State → List (Entry Call Reply) → Type 0
+    → Decisions → Moment State → List (Entry Call Reply) → Type 0
 IsLawful plain formed d at [] = Unit {0}
 IsLawful plain formed d at (entry ∷ entries) = MayCome plain formed d at entry × IsLawful plain formed d (after plain d at entry) entries

@@ -1,5 +1,5 @@
 -- What a keeper keeps.
-use Rattle.std.specs.Prelude.{◌≡◌, ℕ, ◌<◌, ◌≤◌, Bool, true, false, ◌==◌, nat_lt, List, length, Option, Some, None, if◌then◌else◌}
+use Rattle.std.specs.Prelude.{◌≡◌, ℕ, ◌<◌, Bool, true, false, ◌==◌, nat_lt, List, length, Option, Some, None, if◌then◌else◌}
 use Rattle.access_vectors.specs.Decisions.{Decisions}
 use Rattle.access_vectors.specs.Phases.{AreVersions}
 use Rattle.access_vectors.specs.declared.phase.Phase.{Phase}
@@ -28,8 +28,8 @@ HasPlace (Pending pending old new) count room = count < room
 -- the promise of a keeper: its history is lawful from the opening, its state and its phase are the replay of the history,
 -- and while a change is pending the place of the acknowledgement is spare
 pub record IsKept {Call Reply State : Type 0} (d : Decisions) (plain : Manager Call Reply State)
-  (formed : Decisions → State → ℕ → Call → Type 0) (opening state : State) (phase : Phase)
-  (history : List (Entry Call Reply)) (room : ℕ) : Type 0 where
+    (formed : Decisions → State → ℕ → Call → Type 0) (opening state : State) (phase : Phase)
+    (history : List (Entry Call Reply)) (room : ℕ) : Type 0 where
   pub replayed : replay plain d (start_of opening) history ≡ moment state phase
   pub lawful : IsLawful plain formed d (start_of opening) history
   pub versions : AreVersions d.versions phase

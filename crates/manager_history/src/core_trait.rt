@@ -1,11 +1,13 @@
-ghost use Rattle.std.specs.Prelude.{◌≡◌, ℕ, ◌+◌, ◌-◌, ◌<◌, ◌≤◌, true, false, min, IsTrue, List, [], Option, length, take, drop, is_some, IfOk, OnOk, OnErr, if◌then◌else◌};
+ghost use Rattle.std.specs.Prelude.{◌≡◌, ℕ, ◌+◌, ◌-◌, ◌<◌, ◌≤◌, true, false, min};
+ghost use Rattle.std.specs.Prelude.{List, [], Option, length, take, drop, is_some, IfOk, OnOk, OnErr, if◌then◌else◌};
 ghost use Rattle.access_vectors.specs.Decisions.{Decisions};
 ghost use Rattle.access_vectors.specs.Asking.{with_keys_of};
 ghost use Rattle.access_vectors.specs.Phases.{number_of, version_at, MayName, is_pending, acknowledged};
 ghost use Rattle.access_vectors.specs.declared.class.Class.{Class};
 ghost use Rattle.access_vectors.specs.declared.phase.Phase.{Phase};
 ghost use Rattle.manager_history.specs.Answers.{Manager, Denial, IsHonest};
-ghost use Rattle.manager_history.specs.Stale.{Follows, Pair, AreNamed, stale_slots, now_following, all_following, is_use_following};
+ghost use Rattle.access_vectors.specs.Stale.{Follows, Pair, AreNamed, stale_slots};
+ghost use Rattle.access_vectors.specs.Stale.{now_following, all_following, is_use_following};
 
 use access_vectors::{Asker, Decider, Phase, Questions, Steps};
 use flask_sid::Memory;
@@ -16,6 +18,7 @@ use std::sync::ledger::Ledger;
 /// keeps no cache and no rights but asks at each call; the laws and clauses tie each call to it.
 pub trait Core {
     type Call: Drop;
+
     type Reply: Drop;
 
     /// The state that the plain manager sees.
@@ -78,15 +81,20 @@ pub trait Core {
         requires named { MayName (phase self.old) number }
         requires version { A.version asker.old ≡ version_at (phase self.old) number }
         requires none_asked { asked.old ≡ [] }
-        ensures reply { IfOk result (λ replies. replies.0 ≡ (plain (A.decides asker.old) (state self.old) caller call.now number (A.version asker.old)).reply) }
+        ensures reply { let answer = plain (A.decides asker.old) (state self.old) caller call.now number (A.version asker.old) in
+            IfOk result (λ replies. replies.0 ≡ answer.reply) }
         ensures twice { IfOk result (λ replies. replies.1 ≡ replies.0) }
-        ensures state { OnOk result (state self.new ≡ (plain (A.decides asker.old) (state self.old) caller call.now number (A.version asker.old)).state) }
-        ensures asked { OnOk result (asked.new ≡ (plain (A.decides asker.old) (state self.old) caller call.now number (A.version asker.old)).asked) }
-        ensures follows { IfOk result (λ replies. follows self.new ≡ followed (state self.old) caller call.now number replies.0 (follows self.old)) }
+        ensures state { let answer = plain (A.decides asker.old) (state self.old) caller call.now number (A.version asker.old) in
+            OnOk result (state self.new ≡ answer.state) }
+        ensures asked { let answer = plain (A.decides asker.old) (state self.old) caller call.now number (A.version asker.old) in
+            OnOk result (asked.new ≡ answer.asked) }
+        ensures follows { IfOk result (λ replies. follows self.new
+            ≡ followed (state self.old) caller call.now number replies.0 (follows self.old)) }
         ensures asks_nothing { IfOk result (λ replies. is_some (denial_of replies.0) ≡ false
             → is_use_following (use_of caller call.now) (follows self.old) number ≡ true
             → A.asks asker.new ≡ A.asks asker.old) }
-        ensures keys { OnOk result (A.keys asker.new ≡ (if is_use_following (use_of caller call.now) (follows self.old) number
+        ensures keys { OnOk result (A.keys asker.new
+            ≡ (if is_use_following (use_of caller call.now) (follows self.old) number
             then A.keys asker.old else with_keys_of (A.keys asker.old) asked.new)) }
         ensures state_after_memory { OnErr result (state self.new ≡ state self.old) }
         ensures follows_after_memory { OnErr result (follows self.new ≡ follows self.old) }
@@ -129,7 +137,8 @@ pub trait Core {
         requires pending { is_pending (phase self.old) ≡ true }
         ensures left { result ≡ length (stale self.new) }
         ensures stale { stale self.new ≡ drop k (stale self.old) }
-        ensures follows { follows self.new ≡ now_following (take k (stale self.old)) (number_of (phase self.old)) (follows self.old) }
+        ensures follows { follows self.new
+            ≡ now_following (take k (stale self.old)) (number_of (phase self.old)) (follows self.old) }
         ensures cost { steps.new ≤ steps.old + min k (length (stale self.old)) }
         ensures state { state self.new ≡ state self.old }
         ensures phase { phase self.new ≡ phase self.old }

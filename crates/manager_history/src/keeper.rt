@@ -1,4 +1,4 @@
-ghost use Rattle.std.specs.Prelude.{◌≡◌, ◌+◌, ◌<◌, ◌≤◌, true, false, min, [], ◌∷◌, ◌++◌, length, take, drop, Option, None, is_some, IfOk, IfErr, OnOk, OnErr, MatchBool, vec_len, vec_capacity, if◌then◌else◌};
+ghost use Rattle.std.specs.Prelude.{◌≡◌, ◌+◌, ◌<◌, ◌≤◌, [], ◌∷◌, ◌++◌, vec_len, vec_capacity};
 
 use crate::answers::{Ack, NotifyFault, Receipt};
 use crate::core_trait::Core;
@@ -38,30 +38,28 @@ impl<'d, C: Core, D: Decider> Model for Keeper<'d, C, D> {
 
     ghost Value = { Kept C D C.Call C.Reply };
 
-    ghost view = {
-        λ keeper. record {
-            core = keeper.core;
-            decider = keeper.decider.now;
-            manager = keeper.manager;
-            phase = keeper.phase;
-            history = keeper.entries.items }
-    };
+    ghost view = { λ keeper. record {
+      core = keeper.core;
+      decider = keeper.decider.now;
+      manager = keeper.manager;
+      phase = keeper.phase;
+      history = keeper.entries.items;
+    } };
 
-    ghost invariant = {
-        λ keeper. IsKept (D.decides keeper.decider.now) C.plain C.formed (C.opening keeper.core) (C.state keeper.core)
-            keeper.phase keeper.entries.items (vec_capacity keeper.entries)
+    ghost invariant = { λ keeper. IsKept (D.decides keeper.decider.now) C.plain C.formed (C.opening keeper.core) (C.state keeper.core)
+        keeper.phase keeper.entries.items (vec_capacity keeper.entries)
         × C.fits (D.decides keeper.decider.now) keeper.core
-        × (C.phase keeper.core ≡ keeper.phase)
-    };
+        × (C.phase keeper.core ≡ keeper.phase) };
 }
 
 impl<'d, C: Core, D: Decider> Keeper<'d, C, D> {
-    ghost use Rattle.std.specs.Prelude.{◌≡◌, ◌+◌, ◌<◌, ◌≤◌, true, false, min, [], ◌∷◌, ◌++◌, length, take, drop, Option, None, is_some, ◌⊎◌, IsTrue, IfOk, IfErr, OnOk, OnErr, if◌then◌else◌};
+    ghost use Rattle.std.specs.Prelude.{◌≡◌, ◌+◌, ◌≤◌, ◌⊎◌, true, false, min, [], ◌∷◌, ◌++◌, length, take, drop};
+    ghost use Rattle.std.specs.Prelude.{None, is_some, IsTrue, IfOk, IfErr, OnOk, OnErr, if◌then◌else◌};
     ghost use Rattle.access_vectors.specs.Asking.{with_keys_of};
     ghost use Rattle.access_vectors.specs.Phases.{number_of, version_at, MayName, noticed, is_pending, acknowledged};
     ghost use Rattle.manager_history.specs.Histories.{moment, answer_at, start_of, replay, IsLawful};
     ghost use Rattle.manager_history.specs.Laws.{RevocationHolds, DenialsAreJust};
-    ghost use Rattle.manager_history.specs.Stale.{AreNamed, stale_slots, now_following, all_following, is_use_following};
+    ghost use Rattle.access_vectors.specs.Stale.{AreNamed, stale_slots, now_following, all_following, is_use_following};
     ghost use Rattle.manager_history.specs.Kept.{notice_fault, IsRefusal, ack_answer, is_done};
 
     /// A core with an empty history, settled at number 0 with version 0. It takes no memory.
@@ -69,7 +67,13 @@ impl<'d, C: Core, D: Decider> Keeper<'d, C, D> {
         requires fits { C.fits (D.decides decider.now) core }
         requires opening { C.state core ≡ C.opening core }
         requires settled { C.phase core ≡ Phase.Settled 0 0 }
-        ensures { result ≡ record { core = core; decider = decider.now; manager = manager; phase = Phase.Settled 0 0; history = [] } }
+        ensures { result ≡ record {
+          core = core;
+          decider = decider.now;
+          manager = manager;
+          phase = Phase.Settled 0 0;
+          history = [];
+        } }
     {
         Keeper {
             core,
@@ -113,7 +117,7 @@ impl<'d, C: Core, D: Decider> Keeper<'d, C, D> {
         ensures keys { let at = moment (C.state self.old.core) self.old.phase in
             let asked = (answer_at C.plain (D.decides self.old.decider) at caller call number).asked in
             OnOk result (A.keys asker.new ≡ (if is_use_following (C.use_of caller call) (C.follows self.old.core) number
-                then A.keys asker.old else with_keys_of (A.keys asker.old) asked)) }
+            then A.keys asker.old else with_keys_of (A.keys asker.old) asked)) }
         ensures history_after_memory { OnErr result (self.new.history ≡ self.old.history) }
         ensures state_after_memory { OnErr result (C.state self.new.core ≡ C.state self.old.core) }
         ensures follows_after_memory { OnErr result (C.follows self.new.core ≡ C.follows self.old.core) }
@@ -126,7 +130,9 @@ impl<'d, C: Core, D: Decider> Keeper<'d, C, D> {
     {
         self.entries.reserve(2)?;
         let mut asked = Questions::new(alloc);
-        let (kept, reply) = self.core.call(alloc, caller, &call, number, asker, &mut asked)?;
+        let (kept, reply) = self
+            .core
+            .call(alloc, caller, &call, number, asker, &mut asked)?;
         let entry = Entry::Op {
             caller,
             mark,
@@ -144,8 +150,10 @@ impl<'d, C: Core, D: Decider> Keeper<'d, C, D> {
     /// the numbers are spent. After a refusal the keeper is as before.
     pub fn notify(&mut self, alloc: Global, ver: u8, most: u32) -> Result<u32, NotifyFault>
         requires { number_of self.old.phase ≤ most }
-        ensures refusals { IfErr result (IsRefusal (notice_fault self.old.phase (D.decides self.old.decider).versions ver most)) }
-        ensures allowed { OnOk result (notice_fault self.old.phase (D.decides self.old.decider).versions ver most ≡ None) }
+        ensures refusals { let versions = (D.decides self.old.decider).versions in
+            IfErr result (IsRefusal (notice_fault self.old.phase versions ver most)) }
+        ensures allowed { let versions = (D.decides self.old.decider).versions in
+            OnOk result (notice_fault self.old.phase versions ver most ≡ None) }
         ensures number { IfOk result (λ number. number ≡ number_of self.old.phase + 1) }
         ensures added { IfOk result (λ number. self.new.history ≡ self.old.history ++ Entry.Notice number ver ∷ []) }
         ensures phase { IfOk result (λ number. self.new.phase ≡ noticed self.old.phase number ver) }
@@ -181,11 +189,11 @@ impl<'d, C: Core, D: Decider> Keeper<'d, C, D> {
             old,
             new: ver,
         };
-        let entry = Entry::Notice {
+        let notice = Entry::Notice {
             number,
             version: ver,
         };
-        add(&mut self.entries, entry);
+        add(&mut self.entries, notice);
         Ok(number)
     }
 
@@ -194,7 +202,8 @@ impl<'d, C: Core, D: Decider> Keeper<'d, C, D> {
     pub fn update<L: Ledger>(&mut self, k: u64, steps: &mut Steps<L>) -> u64
         ensures left { result ≡ length (C.stale self.new.core) }
         ensures stale { C.stale self.new.core ≡ drop k (C.stale self.old.core) }
-        ensures follows { C.follows self.new.core ≡ now_following (take k (C.stale self.old.core)) (number_of self.old.phase) (C.follows self.old.core) }
+        ensures follows { let revised = take k (C.stale self.old.core) in
+            C.follows self.new.core ≡ now_following revised (number_of self.old.phase) (C.follows self.old.core) }
         ensures idle { is_pending self.old.phase ≡ false → result ≡ 0 }
         ensures cost { steps.new ≤ steps.old + min k (length (C.stale self.old.core)) }
         ensures state { C.state self.new.core ≡ C.state self.old.core }
@@ -214,10 +223,13 @@ impl<'d, C: Core, D: Decider> Keeper<'d, C, D> {
     /// this order: nothing is pending, older passes are out, stale slots are left, done. `older` is how many passes
     /// below the pending number are out, which the caller knows. It takes no memory.
     pub fn acknowledge(&mut self, older: u64) -> Ack
-        ensures answer { result ≡ ack_answer self.old.phase self.old.manager older (length (C.stale self.old.core)) }
-        ensures added { IsTrue (is_done result) → self.new.history ≡ self.old.history ++ Entry.Ack (number_of self.old.phase) ∷ [] }
+        ensures answer { let left = length (C.stale self.old.core) in
+            result ≡ ack_answer self.old.phase self.old.manager older left }
+        ensures added { IsTrue (is_done result)
+            → self.new.history ≡ self.old.history ++ Entry.Ack (number_of self.old.phase) ∷ [] }
         ensures settled { IsTrue (is_done result) → self.new.phase ≡ acknowledged self.old.phase }
-        ensures follows { IsTrue (is_done result) → C.follows self.new.core ≡ all_following (number_of self.old.phase) (C.follows self.old.core) }
+        ensures follows { IsTrue (is_done result)
+            → C.follows self.new.core ≡ all_following (number_of self.old.phase) (C.follows self.old.core) }
         ensures as_before { is_done result ≡ false → self.new ≡ self.old }
         ensures state { C.state self.new.core ≡ C.state self.old.core }
         ensures decider { self.new.decider ≡ self.old.decider }
@@ -258,12 +270,17 @@ impl<'d, C: Core, D: Decider> Keeper<'d, C, D> {
     /// used slot follows a policy number that may be named: the settled one where nothing is pending.
     pub fn entries(&self) -> History<'_, C>
         ensures value { result.now ≡ self.now.history }
-        ensures lawful { IsLawful C.plain C.formed (D.decides self.now.decider) (start_of (C.opening self.now.core)) self.now.history }
-        ensures replayed { replay C.plain (D.decides self.now.decider) (start_of (C.opening self.now.core)) self.now.history
+        ensures lawful { let start = start_of (C.opening self.now.core) in
+            IsLawful C.plain C.formed (D.decides self.now.decider) start self.now.history }
+        ensures replayed { let start = start_of (C.opening self.now.core) in
+            replay C.plain (D.decides self.now.decider) start self.now.history
             ≡ moment (C.state self.now.core) self.now.phase }
         ensures revocation { RevocationHolds (D.decides self.now.decider) (Phase.Settled 0 0) self.now.history }
-        ensures denials { DenialsAreJust C.denial_of (D.decides self.now.decider) (Phase.Settled 0 0) self.now.history }
-        ensures stale { C.stale self.now.core ≡ stale_slots (D.decides self.now.decider) C.class self.now.phase (C.pair_of (C.state self.now.core)) (C.follows self.now.core) }
+        ensures denials { let d = D.decides self.now.decider in
+            DenialsAreJust C.denial_of d (Phase.Settled 0 0) self.now.history }
+        ensures stale { let core = self.now.core in
+            C.stale core ≡ stale_slots (D.decides self.now.decider) C.class self.now.phase
+            (C.pair_of (C.state core)) (C.follows core) }
         ensures follows { AreNamed self.now.phase (C.follows self.now.core) }
     {
         self.entries.as_slice()

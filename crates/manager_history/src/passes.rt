@@ -56,6 +56,9 @@ impl Passes {
     pub fn older(&self, number: u32) -> u64
         ensures { result ≡ older_count number self.now }
     {
-        self.held.iter().filter(|held| held.is_some_and(|held| held < number)).count() as u64
+        self.held
+            .iter()
+            .filter(|held| held.is_some_and(|held| held < number))
+            .count() as u64
     }
 }

@@ -1,6 +1,6 @@
-use Rattle.std.proofs.Common.{◌≡◌, List, ℕ, [], length, take, drop, ap, sym, ◌∙◌}
+use Rattle.std.proofs.Common.{length, take, drop, ap, sym, ◌∙◌}
 use Rattle.std.proofs.Math.Seq.{drop-nil, take-nil}
-use Rattle.manager_history.proofs.StaleLemmas.{none_stale, now_following_none}
+use Rattle.access_vectors.proofs.StaleLemmas.{none_stale, now_following_none}
 use Rattle.manager_history.proofs.keeper.Keeper.update.Goals as goal
 
 pub returns-in-Settled-clause-left : goal.returns-in-Settled-clause-left

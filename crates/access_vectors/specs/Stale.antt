@@ -1,5 +1,5 @@
 -- Which policy number a slot follows, and which slots a pending change leaves stale.
-use Rattle.std.specs.Prelude.{◌≡◌, ℕ, ◌+◌, ◌*◌, Bool, true, false, ◌&&◌, not, ◌==◌, List, [], ◌∷◌, filter, Option, Some, None, if◌then◌else◌}
+use Rattle.std.specs.Prelude.{◌≡◌, ℕ, ◌+◌, ◌*◌, Bool, false, ◌&&◌, not, ◌==◌, List, filter, Option, Some, None, if◌then◌else◌}
 use Rattle.std.specs.List.{list_any}
 use Rattle.std.specs.Ordering.{nat_cmp}
 use Rattle.std.specs.FinMap as maps
@@ -53,7 +53,7 @@ all_following number follows = mapped (λ place before. number) follows
 abbrev pub is_use_following : Option ℕ → Follows → ℕ → Bool
 is_use_following None follows number = false
 is_use_following (Some place) follows number = is_following (maps.get follows place)
- where
-  is_following : Option ℕ → Bool
-  is_following None = false
-  is_following (Some followed) = followed == number
+  where
+    is_following : Option ℕ → Bool
+    is_following None = false
+    is_following (Some followed) = followed == number
