@@ -22,16 +22,18 @@ AllYes asked = All (λ q. q.yes ≡ true) asked
 
 -- questions that were answered yes, before those of a reply
 yes_before : (denial : Option Denial) (number : ℕ) (xs ys : List Asked) → AllYes xs → AreQuestionsOf denial number ys → AreQuestionsOf denial number (xs ++ ys)
-yes_before None number xs ys yes ends = All-append (λ q. q.yes ≡ true) xs ys yes ends
-yes_before (Some denial) number xs ys yes (policy, ends) =
-    (policy, record {
-      before = xs ++ ends.before;
-      last = ends.last;
-      asked_is = ap (λ zs. xs ++ zs) ends.asked_is ∙ sym (append_assoc xs ends.before (ends.last ∷ []));
-      allowed = All-append (λ q. q.yes ≡ true) xs ends.before yes ends.allowed;
-      refused = ends.refused;
-      names = ends.names
-    })
+yes_before None number xs ys told ends = All-append (λ q. q.yes ≡ true) xs ys told ends
+yes_before (Some denial) number xs ys told (policy, ends) = (
+  policy,
+  record {
+    before = xs ++ ends.before;
+    last = ends.last;
+    asked_is = ap (λ zs. xs ++ zs) ends.asked_is ∙ sym (append_assoc xs ends.before (ends.last ∷ []));
+    allowed = All-append (λ q. q.yes ≡ true) xs ends.before told ends.allowed;
+    refused = ends.refused;
+    names = ends.names;
+  },
+)
 
 -- a question that was answered no, alone
 only_no : (q : Asked) (perm : Permission) → q.yes ≡ false → q.perm ≡ perm → EndsWithNo perm (q ∷ [])
@@ -39,7 +41,7 @@ only_no q perm refused names =
     record { before = []; last = q; asked_is = refl; allowed = All-nil (λ one. one.yes ≡ true); refused = refused; names = names }
 
 one_yes : (q : Asked) → q.yes ≡ true → AllYes (q ∷ [])
-one_yes q yes = All-cons (λ one. one.yes ≡ true) q [] yes (All-nil (λ one. one.yes ≡ true))
+one_yes q told = All-cons (λ one. one.yes ≡ true) q [] told (All-nil (λ one. one.yes ≡ true))
 
 -- a reply that changes nothing and asks nothing
 honest_saying : (d : Decisions) (state : FileState) (number version : ℕ) (reply : FileReply) → denial_of reply ≡ None → IsHonest denial_of d number version (saying state reply)
@@ -51,12 +53,12 @@ honest_asking : (d : Decisions) (state : FileState) (number version s t : ℕ) (
 honest_asking d state number version s t perm rest honest =
     let q = question d version s t perm in
     elim q.yes as (λ (b : Bool). q.yes ≡ b → IsHonest denial_of d number version
-        (if b then record { reply = rest.reply; state = rest.state; asked = q ∷ rest.asked } else record { reply = Denied q.perm number; state = state; asked = q ∷ [] })) [
-      true ↦ λ yes. record {
+    (if b then record { reply = rest.reply; state = rest.state; asked = q ∷ rest.asked } else record { reply = Denied q.perm number; state = state; asked = q ∷ [] })) [
+      | true ↦ λ told. record {
         told = All-cons (IsTold d version) q rest.asked refl honest.told;
-        ends = yes_before (denial_of rest.reply) number (q ∷ []) rest.asked (one_yes q yes) honest.ends
+        ends = yes_before (denial_of rest.reply) number (q ∷ []) rest.asked (one_yes q told) honest.ends;
       }
-    | false ↦ λ no. record { told = All-cons (IsTold d version) q [] refl (All-nil (IsTold d version)); ends = (refl, only_no q perm no refl) }
+      | false ↦ λ lacks. record { told = All-cons (IsTold d version) q [] refl (All-nil (IsTold d version)); ends = (refl, only_no q perm lacks refl) }
     ] refl
 
 -- what comes of asking a mode: the answers are told, and a denial is of the last question, which is the only no
@@ -70,16 +72,16 @@ mode_then : (d : Decisions) (version s t : ℕ) (perm : Permission) (rest : Aski
 mode_then d version s t perm rest is =
     let q = question d version s t perm in
     elim q.yes as (λ (b : Bool). q.yes ≡ b → IsModeAsked d version
-        (if b then record { denied = rest.denied; asked = q ∷ rest.asked } else record { denied = Some q.perm; asked = q ∷ [] })) [
-      true ↦ λ yes. record {
+    (if b then record { denied = rest.denied; asked = q ∷ rest.asked } else record { denied = Some q.perm; asked = q ∷ [] })) [
+      | true ↦ λ told. record {
         told = All-cons (IsTold d version) q rest.asked refl is.told;
-        allowed = λ none. All-cons (λ one. one.yes ≡ true) q rest.asked yes (is.allowed none);
-        refused = λ lacking some. (yes_before (Some (record { perm = lacking; policy = 0 })) 0 (q ∷ []) rest.asked (one_yes q yes) (refl, is.refused lacking some)).1
+        allowed = λ none. All-cons (λ one. one.yes ≡ true) q rest.asked told (is.allowed none);
+        refused = λ lacking some. (yes_before (Some (record { perm = lacking; policy = 0 })) 0 (q ∷ []) rest.asked (one_yes q told) (refl, is.refused lacking some)).1;
       }
-    | false ↦ λ no. record {
+      | false ↦ λ lacks. record {
         told = All-cons (IsTold d version) q [] refl (All-nil (IsTold d version));
         allowed = λ none. cc;
-        refused = λ lacking some. only_no q lacking no cc
+        refused = λ lacking some. only_no q lacking lacks cc;
       }
     ] refl
 
@@ -88,9 +90,9 @@ mode_asked d version s t mode [] =
     record { told = All-nil (IsTold d version); allowed = λ none. All-nil (λ q. q.yes ≡ true); refused = λ perm some. cc }
 mode_asked d version s t mode (perm ∷ perms) =
     elim (has mode perm.index) as (λ (b : Bool). IsModeAsked d version
-        (if b then then_asking (question d version s t perm) (asking_mode d version s t mode perms) else asking_mode d version s t mode perms)) [
-      true ↦ mode_then d version s t perm _ (mode_asked d version s t mode perms)
-    | false ↦ mode_asked d version s t mode perms
+    (if b then then_asking (question d version s t perm) (asking_mode d version s t mode perms) else asking_mode d version s t mode perms)) [
+      | true ↦ mode_then d version s t perm _ (mode_asked d version s t mode perms)
+      | false ↦ mode_asked d version s t mode perms
     ]
 
 -- a mode first
@@ -98,7 +100,7 @@ honest_denied_or : (d : Decisions) (state : FileState) (number version : ℕ) (d
 honest_denied_or d state number version None asked rest is honest =
     record {
       told = All-append (IsTold d version) asked rest.asked is.told honest.told;
-      ends = yes_before (denial_of rest.reply) number asked rest.asked (is.allowed refl) honest.ends
+      ends = yes_before (denial_of rest.reply) number asked rest.asked (is.allowed refl) honest.ends;
     }
 honest_denied_or d state number version (Some perm) asked rest is honest = record { told = is.told; ends = (refl, is.refused perm refl) }
 
@@ -124,9 +126,9 @@ honest_read : (d : Decisions) (state : FileState) (number version : ℕ) (held :
 honest_read d state number version None offset most = honest_saying d state number version BadSlot refl
 honest_read d state number version (Some held) offset most =
     elim (has held.mode file_read.index) as (λ (b : Bool). IsHonest denial_of d number version
-        (if b then saying state (Bytes (take most (drop offset (bytes_of state.opening.nodes held.path)))) else saying state BadMode)) [
-      true ↦ honest_saying d state number version _ refl
-    | false ↦ honest_saying d state number version BadMode refl
+    (if b then saying state (Bytes (take most (drop offset (bytes_of state.opening.nodes held.path)))) else saying state BadMode)) [
+      | true ↦ honest_saying d state number version _ refl
+      | false ↦ honest_saying d state number version BadMode refl
     ]
 
 pub honest_answer : (d : Decisions) (state : FileState) (caller : ℕ) (call : FileCall) (number version : ℕ) → IsHonest denial_of d number version (answer d state caller call number version)

@@ -127,7 +127,7 @@ abbrev pub open_into : Decisions → FileState → ℕ → ℕ → ℕ → ℕ �
 open_into d state s number version at path mode (Some held) = saying state SlotUsed
 open_into d state s number version at path mode None =
     asking state number (question d version s state.opening.root dir_search)
-      (opened d state s number version at path mode (node_of state.opening.nodes path))
+    (opened d state s number version at path mode (node_of state.opening.nodes path))
 
 -- open: SlotUsed; the root is searched; NotFound; IsDir; each permission of the mode
 abbrev pub open_row : Decisions → FileState → ℕ → ℕ → ℕ → ℕ → List (List ℕ) → ℕ → FileAnswer

@@ -43,6 +43,7 @@ impl Core for FileCore {
     ghost use Rattle.access_vectors.specs.NoSlots.{no_follows, none_are_stale, none_named};
 
     type Call = FileCall;
+
     type Reply = FileReply;
 
     ghost State = { FileState };
@@ -97,7 +98,12 @@ impl Core for FileCore {
         Ok(0)
     }
 
-    fn revise<D: Decider, L: Ledger>(&mut self, _decider: &D, _k: u64, _steps: &mut Steps<L>) -> u64 {
+    fn revise<D: Decider, L: Ledger>(
+        &mut self,
+        _decider: &D,
+        _k: u64,
+        _steps: &mut Steps<L>,
+    ) -> u64 {
         0
     }
 

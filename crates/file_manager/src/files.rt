@@ -72,6 +72,7 @@ impl Files {
         requires none { asked.old ≡ [] }
         ensures serves { Serves result self.old self.new asked.new
             (answer (A.decides asker.old) self.old caller call.now number (A.version asker.old)) }
+        ensures opening { self.new.opening ≡ self.old.opening }
         ensures keys { OnOk result (A.keys asker.new ≡ with_keys_of (A.keys asker.old) asked.new) }
         ensures same { A.same asker.old asker.new }
         ensures decides { A.decides asker.new ≡ A.decides asker.old }
@@ -156,6 +157,7 @@ impl Files {
         requires none { asked.old ≡ [] }
         ensures serves { Serves result self.old self.new asked.new
             (Plain.open_row (A.decides asker.old) self.old s number (A.version asker.old) at path.now mode) }
+        ensures opening { self.new.opening ≡ self.old.opening }
         ensures keys { OnOk result (A.keys asker.new ≡ with_keys_of (A.keys asker.old) asked.new) }
         ensures same { A.same asker.old asker.new }
         ensures decides { A.decides asker.new ≡ A.decides asker.old }
