@@ -4,7 +4,7 @@ ghost use Rattle.session_text.specs.Grammar;
 
 use file_manager::{FileCall, FilePath};
 use flask_sid::{Memory, Name, Piece, Rows, Sid};
-use policy_text::PolicyParts;
+use policy_text::PolicyText;
 use std::alloc::Global;
 use std::marker::Model;
 
@@ -51,7 +51,7 @@ pub struct RunLine {
 /// All that a session text says.
 #[derive(Debug, Drop)]
 pub struct SessionParts {
-    pub policy: PolicyParts,
+    pub policy: PolicyText,
     pub nodes: Rows<NodeLine>,
     pub clients: Rows<ClientLine>,
     pub lines: Rows<RunLine>,
@@ -88,7 +88,7 @@ impl Session {
 // How a session grows, line after line.
 impl Session {
     /// The session of a policy, with nothing there yet.
-    pub(crate) fn begun(alloc: Global, policy: PolicyParts) -> Session
+    pub(crate) fn begun(alloc: Global, policy: PolicyText) -> Session
         ensures { result ≡ record { policy = policy; nodes = []; clients = []; lines = [] } }
     {
         Session {

@@ -38,7 +38,7 @@ pub fn file_read(
     if !path.is_below_root() {
         return Err(Refusal::Fault(FaultKind::Unknown));
     }
-    let Some(sid) = context_sid(session.parts().policy.contexts.as_slice(), &context) else {
+    let Some(sid) = context_sid(session.parts().policy.parts().contexts.as_slice(), &context) else {
         return Err(Refusal::Fault(FaultKind::Undeclared));
     };
     let path = path.kept(alloc)?;
@@ -79,7 +79,7 @@ pub fn client_read(
     if name.is_long() || context.is_long() || session.parts().clients.len() >= CLIENT_LIMIT {
         return Err(Refusal::Fault(FaultKind::Limit));
     }
-    let Some(sid) = context_sid(session.parts().policy.contexts.as_slice(), &context) else {
+    let Some(sid) = context_sid(session.parts().policy.parts().contexts.as_slice(), &context) else {
         return Err(Refusal::Fault(FaultKind::Undeclared));
     };
     if name.is(b"admin") || has_client(session.parts().clients.as_slice(), &name) {
