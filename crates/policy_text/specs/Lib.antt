@@ -6,3 +6,4 @@ pub mod Reading
 pub mod Matching
 pub mod Deciding
 pub mod Example
+pub mod Kept

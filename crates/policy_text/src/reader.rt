@@ -21,14 +21,13 @@ pub struct PolicyReader {
 }
 
 impl Model for PolicyReader {
-    ghost use Rattle.std.specs.Prelude.{◌≤◌};
-    ghost use Rattle.policy_text.specs.Reading.{Reading};
+    ghost use Rattle.policy_text.specs.Reading.{Reading, IsLawful};
 
     ghost Value = { Reading };
 
     ghost view = { λ reader. record { number = reader.number; above = reader.above } };
 
-    ghost invariant = { λ reader. reader.number ≤ 100001 };
+    ghost invariant = { λ reader. IsLawful reader.number reader.above };
 }
 
 impl PolicyReader {
