@@ -1,5 +1,4 @@
-ghost use Rattle.std.specs.Prelude.{◌≡◌, ◌<◌, None, length};
-ghost use Rattle.access_vectors.specs.Phases.{MayName, number_of};
+ghost use Rattle.std.specs.Prelude.{false, ◌≡◌, ◌<◌};
 
 use super::{Ack, Core, Entry, Keeper, NotifyFault, Passes, Receipt};
 use access_vectors::perms::FILE_READ;
@@ -173,28 +172,29 @@ fn update_counted<L: Ledger>(
     keeper.update(k, &mut steps)
 }
 
-#[test]
-fn a_change_runs_from_notice_to_acknowledgement(rt: HostRuntime) -> Result<(), Fail> {
-    let alloc = rt.alloc();
-    let decider = ByVersion;
-    let sid = Sid::of(5).ok_or("a number in range")?;
-    let reader = Reader {
+fn settled_reader(sid: Sid) -> Reader
+    ensures phase { result.phase ≡ Phase.Settled 0 0 }
+    ensures last { result.last ≡ false }
+{
+    Reader {
         sid,
         phase: Phase::Settled {
             number: 0,
             version: 0,
         },
         last: false,
-    };
-    let mut keeper = Keeper::new(alloc, reader, 2, &decider);
-    let mut before = Plainly::new(&decider, 0);
-    assert_eq!(rt; keeper.call(alloc, 0, 10, sid, 0, &mut before)?, (false, 0));
+    }
+}
+
+#[test]
+fn a_change_runs_from_notice_to_acknowledgement(rt: HostRuntime) -> Result<(), Fail> {
+    let alloc = rt.alloc();
+    let decider = ByVersion;
+    let sid = Sid::of(5).ok_or("a number in range")?;
+    let mut keeper = Keeper::new(alloc, settled_reader(sid), 2, &decider);
     assert_eq!(rt; keeper.notify(alloc, 2, 9), Err(NotifyFault::NoVersion));
     assert_eq!(rt; keeper.notify(alloc, 1, 9), Ok(1));
     assert_eq!(rt; keeper.notify(alloc, 1, 9), Err(NotifyFault::Pending(1)));
-    let mut after = Plainly::new(&decider, 1);
-    assert_eq!(rt; keeper.call(alloc, 0, 11, sid, 1, &mut after)?, (true, 1));
-    assert_eq!(rt; keeper.call(alloc, 1, 12, sid, 0, &mut before)?, (false, 0));
     assert_eq!(rt; update_counted::<Brand>(&mut keeper, 7, Blank::new(1)), 0);
     assert_eq!(rt; keeper.acknowledge(1), Ack::Busy { older: 1 });
     assert_eq!(rt;
@@ -213,15 +213,28 @@ fn a_change_runs_from_notice_to_acknowledgement(rt: HostRuntime) -> Result<(), F
         }
     );
     assert_eq!(rt; keeper.notify(alloc, 1, 1), Err(NotifyFault::Spent));
-    let mut kinds = Vec::new(alloc);
+    Ok(())
+}
+
+#[test]
+fn the_history_is_what_was_done(rt: HostRuntime) -> Result<(), Fail> {
+    let alloc = rt.alloc();
+    let decider = ByVersion;
+    let sid = Sid::of(5).ok_or("a number in range")?;
+    let mut keeper = Keeper::new(alloc, settled_reader(sid), 2, &decider);
+    let mut before = Plainly::new(&decider, 0);
+    let mut after = Plainly::new(&decider, 1);
+    assert_eq!(rt; keeper.call(alloc, 0, 10, sid, 0, &mut before)?, (false, 0));
+    assert_eq!(rt; keeper.notify(alloc, 1, 9), Ok(1));
+    assert_eq!(rt; keeper.call(alloc, 0, 11, sid, 1, &mut after)?, (true, 1));
+    let mut marks = Vec::new(alloc);
     for entry in keeper.entries() {
-        kinds.push(match entry {
+        marks.push(match entry {
             Entry::Op { mark, .. } => *mark,
-            Entry::Notice { number, .. } => 100 + number % 100,
-            Entry::Ack { number } => 200 + number % 100,
+            Entry::Notice { number, .. } | Entry::Ack { number } => *number,
         })?;
     }
-    assert_eq!(rt; kinds.as_slice(), [10, 101, 11, 12, 201].as_slice());
+    assert_eq!(rt; marks.as_slice(), [10, 1, 11].as_slice());
     Ok(())
 }
 
