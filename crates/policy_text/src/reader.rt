@@ -114,3 +114,6 @@ pub fn read(alloc: Global, bytes: &[u8]) -> Result<PolicyText, TextFault>
     }
     reader.finish()
 }
+
+#[cfg(test)]
+mod tests;
