@@ -50,6 +50,6 @@ pub all_acknowledged : (pending old new : ℕ) (held : List (Option ℕ)) → ol
 all_acknowledged pending old new [] none named = tt
 all_acknowledged pending old new (one ∷ held) none named =
     elim (is_below pending one) as (λ b. is_below pending one ≡ b → cond b 1 0 + older_count pending held ≡ 0 → AreNamed (Settled pending new) (one ∷ held)) [
-      true ↦ λ is e. absurd (omega arith)
-    | false ↦ λ is e. (one_acknowledged pending old new one is named.0, all_acknowledged pending old new held (omega arith) named.1)
+      | true ↦ λ is e. absurd (omega arith)
+      | false ↦ λ is e. (one_acknowledged pending old new one is named.0, all_acknowledged pending old new held (omega arith) named.1)
     ] refl none

@@ -20,11 +20,13 @@ written_more before now later whole part rest offered added =
 
 -- of a part of the rest a front was written
 pub front_of_part : (before now later : Option (List ℕ)) (whole part rest : List ℕ) → IsOffered before now whole (part ++ rest) → AddsFront now later part → AddsFront before later whole
-front_of_part before now later whole part rest offered added =
-    (offered.0 ++ added.0, added.1 ++ rest,
-      offered.1 ∙ ap (λ p. offered.0 ++ (p ++ rest)) added.2 ∙ ap (λ p. offered.0 ++ p) (append_assoc added.0 added.1 rest)
-        ∙ sym (append_assoc offered.0 added.0 (added.1 ++ rest)),
-      adds_more before now later offered.0 added.0 offered.2 added.3)
+front_of_part before now later whole part rest offered added = (
+  offered.0 ++ added.0,
+  added.1 ++ rest,
+  offered.1 ∙ ap (λ p. offered.0 ++ (p ++ rest)) added.2 ∙ ap (λ p. offered.0 ++ p) (append_assoc added.0 added.1 rest)
+      ∙ sym (append_assoc offered.0 added.0 (added.1 ++ rest)),
+  adds_more before now later offered.0 added.0 offered.2 added.3,
+)
 
 -- what was written so far is a front
 pub front_so_far : (before now : Option (List ℕ)) (whole rest : List ℕ) → IsOffered before now whole rest → AddsFront before now whole

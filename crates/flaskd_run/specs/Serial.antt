@@ -38,7 +38,7 @@ abbrev pub opening_of : SessionParts → FileOpening
 opening_of session = record {
   clients = map (λ client. client.sid) session.clients;
   root = 1;
-  nodes = map (λ node. record { path = node.path; sid = node.sid; bytes = node.bytes }) session.nodes
+  nodes = map (λ node. record { path = node.path; sid = node.sid; bytes = node.bytes }) session.nodes;
 }
 
 -- before the first line, with this opening
@@ -49,7 +49,7 @@ morning_of opening = record {
   held = replicate 64 None;
   calls = 0;
   denied = 0;
-  changes = 0
+  changes = 0;
 }
 
 -- before the first line of a session
@@ -59,10 +59,10 @@ morning session = morning_of (opening_of session)
 -- the name of a client
 abbrev pub name_of : List ClientLine → ℕ → List ℕ
 name_of clients client = name_in (slice_get clients client)
- where
-  name_in : Option ClientLine → List ℕ
-  name_in None = []
-  name_in (Some line) = line.name
+  where
+    name_in : Option ClientLine → List ℕ
+    name_in None = []
+    name_in (Some line) = line.name
 
 -- the policy number under which a client acts: that of its held pass, or the newest
 abbrev pub acting_number : Day → ℕ → ℕ
@@ -85,7 +85,7 @@ day_called day answer = record {
   held = day.held;
   calls = day.calls + 1;
   denied = counted_denial (denial_of answer.reply) day.denied;
-  changes = day.changes
+  changes = day.changes;
 }
 
 -- passes after a client took one, where it held none

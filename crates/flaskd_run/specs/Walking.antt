@@ -23,5 +23,5 @@ decisions_of policy = record {
   known = λ sid. nat_lt 0 sid && nat_le sid (length policy.contexts);
   vector = λ version s t class. vector_of policy version (kind_of policy.contexts s) (kind_of policy.contexts t) class;
   label = λ version s t class. t;
-  member = λ version s t class. t
+  member = λ version s t class. t;
 }

@@ -30,8 +30,8 @@ where_lt zero test within = lit< tt
 where_lt (suc n) test within =
     let below : vector_where n test < 2 ^ 16 = where_lt n test (omega arith) in
     elim (test n) as (λ b. cond b (with_index (vector_where n test) n) (vector_where n test) < 2 ^ 16) [
-      true ↦ or_lt 16 (vector_where n test) (2 ^ n) below (pow-lt {i = n} {j = 16} (omega arith))
-    | false ↦ below
+      | true ↦ or_lt 16 (vector_where n test) (2 ^ n) below (pow-lt {i = n} {j = 16} (omega arith))
+      | false ↦ below
     ]
 
 -- a policy text has at most 64 versions
@@ -56,5 +56,5 @@ closed_walk policy some few contexts =
       sids = λ s known. grind (arith, nat_tests);
       vectors = λ version s t class below source target. where_lt 16 _ (omega arith);
       labels = λ version s t class below source target. target;
-      members = λ version s t class below source target. target
+      members = λ version s t class below source target. target;
     }

@@ -39,25 +39,23 @@ impl<'d, 'p> Model for Desk<'d, 'p> {
 
     ghost Value = { Standing };
 
-    ghost view = {
-        λ desk. record {
-            day = record {
-                files = desk.keeper.core.files;
-                phase = desk.keeper.phase;
-                held = desk.passes;
-                calls = desk.calls;
-                denied = desk.denied;
-                changes = desk.changes };
-            policy = desk.decider.now.policy.now }
-    };
+    ghost view = { λ desk. record {
+      day = record {
+        files = desk.keeper.core.files;
+        phase = desk.keeper.phase;
+        held = desk.passes;
+        calls = desk.calls;
+        denied = desk.denied;
+        changes = desk.changes;
+      };
+      policy = desk.decider.now.policy.now;
+    } };
 
-    ghost invariant = {
-        λ desk. (desk.keeper.decider ≡ desk.decider.now)
+    ghost invariant = { λ desk. (desk.keeper.decider ≡ desk.decider.now)
         × (desk.keeper.manager ≡ 0)
         × AreNamed desk.keeper.phase desk.passes
         × (desk.denied ≤ desk.calls)
-        × (number_of desk.keeper.phase ≤ 1048575)
-    };
+        × (number_of desk.keeper.phase ≤ 1048575) };
 }
 
 /// What a client's call got, and the policy number under which it was done.
@@ -90,7 +88,13 @@ impl<'d, 'p> Desk<'d, 'p> {
     }
 
     /// Does a client's call, under its held pass or else a pass of the newest number.
-    pub fn call(&mut self, alloc: Global, mark: u32, client: u8, call: FileCall) -> Result<Acted, Memory>
+    pub fn call(
+        &mut self,
+        alloc: Global,
+        mark: u32,
+        client: u8,
+        call: FileCall,
+    ) -> Result<Acted, Memory>
         requires formed { IsFormed self.old.day.files client call }
         requires client { client < 64 }
         requires countable { self.old.day.calls + 1 < 2 ^ 64 }
@@ -103,7 +107,9 @@ impl<'d, 'p> Desk<'d, 'p> {
         let number = self.acting(client);
         let version = self.keeper.phase().version_at(number);
         let mut asker = Plainly::new(self.decider, version);
-        let reply = self.keeper.call(alloc, client, mark, call, number, &mut asker)?;
+        let reply = self
+            .keeper
+            .call(alloc, client, mark, call, number, &mut asker)?;
         self.calls += 1;
         if is_denied(&reply) {
             self.denied += 1;

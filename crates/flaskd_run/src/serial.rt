@@ -37,7 +37,11 @@ impl From<Memory> for RunStop {
 }
 
 /// What the file manager is opened with: a client acts as its context, and the root has the first context.
-fn opening_of(alloc: Global, nodes: Rows<Node>, clients: &[ClientLine]) -> Result<FileOpening, Memory>
+fn opening_of(
+    alloc: Global,
+    nodes: Rows<Node>,
+    clients: &[ClientLine],
+) -> Result<FileOpening, Memory>
     ensures { IfOk result (λ opening. opening
         ≡ record { clients = map (λ (client : ClientLine). client.sid) clients.now; root = 1; nodes = nodes }) }
 {

@@ -7,5 +7,5 @@ invariant_of-result c =
     record {
       some_version = kept.version;
       few_versions = few_versions c.args.policy.now kept;
-      few_contexts = few_contexts c.args.policy.now kept
+      few_contexts = few_contexts c.args.policy.now kept;
     }
