@@ -2,6 +2,7 @@
 use Rattle.std.proofs.Common.{◌≡◌, ◌<◌, ◌≤◌, ◌+◌, ℕ, zero, suc, Bool, true, false, cond, ltb, List, [], ◌∷◌, length, slice_get, slice_set, replicate, Option, Some, None, unwrap_or, refl, inl, inr, arith, ◌⊎◌}
 use Rattle.std.specs.Prelude.{count_by}
 use Rattle.std.proofs.lemmas.Bool.Decides.{nat_tests}
+use Rattle.std.proofs.lemmas.List.Sums.{sum_by-cons}
 use Rattle.access_vectors.specs.Phases.{MayName, number_of, version_at, noticed, acknowledged}
 use Rattle.access_vectors.specs.declared.phase.Phase.{Phase}
 use Rattle.access_vectors.specs.declared.phase.Phase.TheVariants.{Settled, Pending}
@@ -52,4 +53,12 @@ all_acknowledged pending old new (one ∷ held) none named =
     elim (is_below pending one) as (λ b. is_below pending one ≡ b → cond b 1 0 + older_count pending held ≡ 0 → AreNamed (Settled pending new) (one ∷ held)) [
       | true ↦ λ is e. absurd (omega arith)
       | false ↦ λ is e. (one_acknowledged pending old new one is named.0, all_acknowledged pending old new held (omega arith) named.1)
-    ] refl none
+    ] refl (rw (sum_by-cons (λ held. cond (is_below pending held) 1 0) one held) at none)
+
+-- the number under which a client acts may be named
+pub acting_named : (phase : Phase) (held : List (Option ℕ)) (client : ℕ) → AreNamed phase held → MayName phase (unwrap_or (pass_of held client) (number_of phase))
+acting_named phase held client named =
+    elim (pass_of held client) as (λ one. IsNamed phase one → MayName phase (unwrap_or one (number_of phase))) [
+      None ↦ λ is. newest_named phase
+    | Some number ↦ λ is. is
+    ] (named_at phase held client named)

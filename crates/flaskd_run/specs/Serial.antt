@@ -38,7 +38,7 @@ abbrev pub opening_of : SessionParts → FileOpening
 opening_of session = record {
   clients = map (λ client. client.sid) session.clients;
   root = 1;
-  nodes = map (λ node. record { path = node.path; sid = node.sid; bytes = node.bytes }) session.nodes;
+  nodes = session.nodes;
 }
 
 -- before the first line, with this opening

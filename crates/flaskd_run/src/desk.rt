@@ -33,8 +33,8 @@ pub struct Desk<'d, 'p> {
 }
 
 impl<'d, 'p> Model for Desk<'d, 'p> {
-    ghost use Rattle.std.specs.Prelude.{◌≡◌, ◌≤◌};
-    ghost use Rattle.access_vectors.specs.Phases.{number_of};
+    ghost use Rattle.std.specs.Prelude.{◌≡◌, ◌≤◌, length};
+    ghost use Rattle.access_vectors.specs.Phases.{number_of, AreVersions};
     ghost use Rattle.flaskd_run.specs.Desks.{Standing, AreNamed};
 
     ghost Value = { Standing };
@@ -55,7 +55,8 @@ impl<'d, 'p> Model for Desk<'d, 'p> {
         × (desk.keeper.manager ≡ 0)
         × AreNamed desk.keeper.phase desk.passes
         × (desk.denied ≤ desk.calls)
-        × (number_of desk.keeper.phase ≤ 1048575) };
+        × (number_of desk.keeper.phase ≤ 1048575)
+        × AreVersions (length desk.decider.now.policy.now.versions) desk.keeper.phase };
 }
 
 /// What a client's call got, and the policy number under which it was done.

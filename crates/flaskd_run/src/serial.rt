@@ -10,6 +10,7 @@ ghost use Rattle.flaskd_run.specs.Serial;
 ghost use Rattle.flaskd_run.specs.Walking.{decisions_of};
 ghost use Rattle.flaskd_run.specs.Writing.{AddsFront};
 ghost use Rattle.flaskd_run.specs.declared.serial.RunStop.{RunStop};
+ghost use Rattle.flaskd_run.specs.declared.serial.RunStop.TheVariants as run_stop;
 
 use crate::desk::Desk;
 use crate::texts::{put_ack, put_admin, put_client, put_notice, put_reply, put_summary};
@@ -31,6 +32,8 @@ pub enum RunStop {
 }
 
 impl From<Memory> for RunStop {
+    ghost from_gives = { λ _ e. e ≡ run_stop.Memory };
+
     fn from(_: Memory) -> Self {
         RunStop::Memory
     }

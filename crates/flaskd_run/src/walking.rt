@@ -18,7 +18,8 @@ pub struct Walking<'a> {
 impl<'a> Walking<'a> {
     /// The decider of a policy. It takes no memory.
     pub fn new(policy: &'a PolicyText) -> Walking<'a>
-        ensures { ⟦<Walking<'a> as Decider>⟧.decides result ≡ decisions_of policy.now }
+        ensures policy { result.policy.now ≡ policy.now }
+        ensures some_context { 0 < length policy.now.contexts }
     {
         let _kept = policy.parts();
         Walking { policy }

@@ -1,5 +1,5 @@
 use Rattle.std.proofs.Common.{◌≡◌, ◌≤◌, ◌<◌, ◌+◌, ◌^◌, length, All}
-use Rattle.std.specs.Vec.Iter.{into_iter_items}
+use Rattle.std.specs.Vec.Iter.{into_iter_items, into_iter_len}
 use Rattle.session_text.specs.Sessions.{IsRun}
 use Rattle.flaskd_run.specs.Serial.{lines_text}
 use Rattle.flaskd_run.specs.Walking.{decisions_of}
@@ -16,6 +16,7 @@ invariant-lines g l =
       policy : l.desk.policy ≡ l.fn.desk.policy;
       opening : length l.desk.day.files.opening.clients ≡ length l.clients;
       formed : All (λ line. IsRun (length l.clients) line.run) (into_iter_items l.line-iterator);
+      left : into_iter_len l.line-iterator ≡ length (into_iter_items l.line-iterator);
       calls : l.desk.day.calls + length (into_iter_items l.line-iterator) < 2 ^ 64;
       changes : l.desk.day.changes + length (into_iter_items l.line-iterator) < 2 ^ 64;
     }
