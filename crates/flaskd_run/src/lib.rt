@@ -3,8 +3,10 @@
 
 mod desk;
 mod reading;
+mod said;
 mod serial;
 mod status;
+
 mod stops;
 mod texts;
 mod top;
@@ -13,5 +15,6 @@ mod writing;
 
 pub use reading::INPUT_LIMIT;
 pub use status::Status;
+pub use said::status_text;
 pub use stops::{NoStops, Stops};
 pub use top::flaskd;
