@@ -1,0 +1,5 @@
+pub mod Places
+pub mod Serving
+pub mod Passing
+pub mod RowsKept
+pub mod Histories
