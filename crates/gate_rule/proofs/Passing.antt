@@ -141,13 +141,17 @@ module _ (rs : List Rights) (c a F cnt un clear : ℕ) (ver : ℕ → ℕ) (gate
   pub counted_in : cnt ≤ r.entered
   counted_in = let h = r.here in omega arith
 
+  -- the gate word after a raise
+  pub raised_word : (by v : ℕ) → c + 1 < 1048576 → ver c < 256 → v < 256 → by + ver c * 68719476736 ≡ 17592186044416 + v * 68719476736 → (gate + by) % 18446744073709551616 ≡ gate_word (c + 1) v r.entered
+  raised_word by v small known fits amount = let g = r.gate_is in let b = few in omega arith
+
   pub raises : (by v : ℕ) → a ≡ c → c + 1 < 1048576 → ver c < 256 → v < 256 → by + ver c * 68719476736 ≡ 17592186044416 + v * 68719476736
       → Passes rs (c + 1) a F (r.entered - cnt) un clear (put ver (c + 1) v) ((gate + by) % 18446744073709551616) even odd
   raises by v at_rest small known fits amount =
       let here = put_here ver (c + 1) v in
       record {
         entered = r.entered;
-        gate_is = subst (λ (z : ℕ). (gate + by) % 18446744073709551616 ≡ gate_word (c + 1) z r.entered) (sym here) (let g = r.gate_is in let b = few in omega arith);
+        gate_is = subst (λ (z : ℕ). (gate + by) % 18446744073709551616 ≡ gate_word (c + 1) z r.entered) (sym here) (raised_word by v small known fits amount);
         here = let h = r.here in let t = r.there in omega arith;
         there =
           let h = r.here in

@@ -1,5 +1,5 @@
 -- Lists read by place, before and after one item changes or one is added.
-use Rattle.std.proofs.Common.{◌≡◌, ◌≢◌, ℕ, zero, suc, ◌+◌, ◌<◌, ◌≤◌, ◌⊎◌, List, [], ◌∷◌, ◌++◌, map, length, get_or, set, sym, refl, ap, ◌∙◌, subst, inl, inr, ⊎_elim, arith}
+use Rattle.std.proofs.Common.{◌≡◌, ◌≢◌, ℕ, zero, suc, ◌+◌, ◌<◌, ◌≤◌, ◌⊎◌, List, [], ◌∷◌, ◌++◌, map, length, get_or, set, sym, refl, ap, ◌∙◌, subst, inl, inr, ⊎_elim, get_or-set_other, get_or-set_same, arith}
 use Rattle.std.specs.List.{sum_by, filter}
 use Rattle.std.proofs.lemmas.List.Sums.{sum_by-set, sum_by-cons, sum_by_push}
 use mathlib.Core.Option.{some, some-injective, some-ne-none}
@@ -7,7 +7,7 @@ use mathlib.Core.Logic.{dite}
 use native.Mathlib.Decide.{ℕ_discrete}
 use lib.ListN.{get_elem?}
 use lib.Seq.{map-set, set-get_or}
-use Rattle.atomic_table.proofs.Lists.{at_set, set_again, at_map}
+use Rattle.atomic_table.proofs.Lists.{at_set, set_again, set_here, set_else, at_map, at_longer}
 
 abbrev pick : {P : Type 0} {A : Type 0} → Dec P → A → A → A
 pick (yes _) a b = a
@@ -88,3 +88,28 @@ module _ {A : Type 0} where
   pub map_more : {B : Type 0} (p : A → B) (l : List A) (y : A) → map p (l ++ y ∷ []) ≡ map p l ++ p y ∷ []
   map_more p [] y = refl
   map_more p (x ∷ xs) y = ap (λ (z : _). p x ∷ z) (map_more p xs y)
+
+  -- some item with a fact, where the replaced one keeps it
+  pub kept_at : (P : A → Type 0) (l : List A) (i : ℕ) (x y : A) → get_elem? l i ≡ some x → (P x → P y) → (j : ℕ) (u : A) → get_elem? l j ≡ some u → P u → (w : A) × (get_elem? (set l i y) j ≡ some w) × P w
+  kept_at P l i x y at keeps j u there holds =
+      dite (ℕ_discrete j i)
+        (λ e. (y, subst (λ (k : ℕ). get_elem? (set l i y) k ≡ some y) (sym e) (set_here l i y (within l i x at)),
+            keeps (subst P (some-injective u x (sym there ∙ (ap (get_elem? l) e ∙ at))) holds)))
+        (λ ne. (u, set_else l i j y ne ∙ there, holds))
+
+  -- the projection of a replaced item
+  pub map_moved : {B : Type 0} (p : A → B) (l : List A) (i : ℕ) (y : A) (b : B) → p y ≡ b → map p (set l i y) ≡ set (map p l) i b
+  map_moved p l i y b e = map-set p l i y ∙ ap (λ (z : _). set (map p l) i z) e
+
+  pub same_place : (l : List A) (i : ℕ) (x y : A) → get_elem? l i ≡ some x → get_elem? l i ≡ some y → x ≡ y
+  same_place l i x y a b = some-injective x y (sym a ∙ b)
+
+-- a word that a step does not touch, and the word that it does
+pub word_else : (ws : List ℕ) (i j x : ℕ) → j ≢ i → get_or (set ws i x) j 0 ≡ get_or ws j 0
+word_else ws i j x ne = get_or-set_other ws i j x 0 ne
+
+pub word_here : (ws : List ℕ) (i x : ℕ) → i < length ws → get_or (set ws i x) i 0 ≡ x
+word_here ws i x lt = get_or-set_same ws i x 0 lt
+
+pub word_same : (ws : List ℕ) (i : ℕ) → set ws i (get_or ws i 0) ≡ ws
+word_same ws i = set-get_or ws i 0
