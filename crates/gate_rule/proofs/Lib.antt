@@ -7,3 +7,4 @@ pub mod Steps
 pub mod Turns
 pub mod Giving
 pub mod Numbers
+pub mod Seating

@@ -10,6 +10,7 @@ use Rattle.gate_rule.specs.declared.view.Role.TheVariants.{Spent, Caller, Admin}
 use Rattle.gate_rule.specs.declared.view.Pass.{Pass}
 use Rattle.gate_rule.specs.declared.view.Pass.TheVariants.{Out, Inside}
 use Rattle.gate_rule.specs.declared.view.Key.{Key}
+use Rattle.gate_rule.specs.declared.view.Ended.{Ended}
 use Rattle.gate_rule.specs.declared.view.Fixed.{Fixed}
 use Rattle.gate_rule.specs.declared.view.View.{View}
 use Rattle.gate_rule.specs.declared.journal.Terms.{Terms}
@@ -58,6 +59,13 @@ module _ {V E D O : Type 0} (M : Means V E D O) where
   -- what a seat learns with the turn
   abbrev pub Takes : View E D O → V → Type 0
   Takes v x = StartsWith (M.history x) v.seen × Learns M.kind v v.role (M.history x) × ((f : Fixed D O) → v.fixed ≡ Some f → IsOf f x)
+
+  -- what the administrator learns of the value with which a gate ends: each retired number's entries are all of that number, and its turns' entries are all notices and acknowledgements
+  abbrev pub Closes : View E D O → V → Type 0
+  Closes v x =
+      ((f : Fixed D O) → v.fixed ≡ Some f → IsOf f x) × (controls M.kind (M.history x) ≡ entries_of v.desk.turns)
+      × ((i : ℕ) (e : Ended E) → get_elem? v.desk.ended i ≡ some e → e.entries ≡ of_caller M.kind e.number (M.history x))
+      × StartsWith (M.history x) v.seen × (last_notice M.kind (M.history x) ≡ (v.desk.newest, v.desk.version))
 
 module _ {V E D O : Type 0} (M : Means V E D O) (decides : D → Decisions) where
   -- at some moment the table met the whole rule, this view was a seat's, and the word was this one
