@@ -2,7 +2,7 @@
 use Rattle.std.specs.Prelude.{◌≡◌, ℕ, ◌+◌, ◌*◌, ◌/◌, ◌%◌, ◌<◌, ◌≤◌, ◌⊎◌, ◌==◌, Bool, List, slice_index}
 use Rattle.access_vectors.specs.declared.class.Class.{Class}
 use Rattle.access_vectors.specs.Decisions.{Decisions}
-use Rattle.row_words.specs.Words.{row_word, row_place, IsRow}
+use Rattle.row_words.specs.Words.{row_word, row_place, IsRow, AreSids}
 use Rattle.gate_rule.specs.declared.view.Key.{Key}
 
 -- a word is empty, or a row under a number that is not above the newest, with the decider's vector for that number's version
@@ -29,4 +29,4 @@ shows n k w = w == key_row n k (w % 65536)
 
 -- a key that a row can name
 abbrev pub IsKey : Key → Type 0
-IsKey k = (0 < k.source) × (k.source < 4096) × (0 < k.target) × (k.target < 4096)
+IsKey k = AreSids k.source k.target

@@ -7,7 +7,7 @@ use std::snapshot::Snapshot;
 /// A value that a gate can keep: it has a history, whose entries are calls of callers, notices and
 /// acknowledgements, an opening and a decider that no turn changes, and slots of which some are stale. What its
 /// type promises of each history has at least notices and acknowledgements in their order.
-pub trait Journal<D: Decider> {
+pub trait Journal<D: Decider>: Drop {
     ghost use Rattle.std.specs.Prelude.{List};
     ghost use Rattle.gate_rule.specs.Meaning.{Means};
     ghost use Rattle.gate_rule.specs.History.{Alternates};

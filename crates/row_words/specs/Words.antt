@@ -15,6 +15,10 @@ gate_word number version passes = number * 17592186044416 + version * 6871947673
 abbrev pub split_gate : ℕ → ℕ × ℕ × ℕ
 split_gate w = (w / 17592186044416, w / 68719476736 % 256, w % 68719476736)
 
+-- source and target are from 1 to 4,095
+abbrev pub AreSids : ℕ → ℕ → Type 0
+AreSids s t = (0 < s) × (s < 4096) × (0 < t) × (t < 4096)
+
 -- the fields of a row beside its class are within these
 abbrev pub IsRow : ℕ → ℕ → ℕ → ℕ → Type 0
 IsRow number s t v = (number < 1048576) × (0 < s) × (s < 4096) × (0 < t) × (t < 4096) × (v < 65536)

@@ -11,7 +11,8 @@ pub const ROWS: usize = 512;
 /// The word of a cached answer: under a policy number, source and target have this vector of this class.
 pub fn row_word(number: u32, s: Sid, t: Sid, c: Class, v: Vector) -> u64
     requires { number < 1048576 }
-    ensures { result ≡ Words.row_word number s t c v }
+    ensures word { result ≡ Words.row_word number s t c v }
+    ensures fields { Words.IsRow number s t v }
 {
     u64::from(number) * 17_592_186_044_416
         + u64::from(s.number()) * 4_294_967_296
@@ -44,6 +45,7 @@ pub fn split_row(w: u64) -> Option<(u32, Sid, Sid, Class, Vector)>
 pub fn row_place(s: Sid, t: Sid, c: Class) -> usize
     ensures place { result ≡ Words.row_place s t c }
     ensures within { result < 512 }
+    ensures sids { Words.AreSids s t }
 {
     (31 * usize::from(s.number()) + 7 * usize::from(t.number()) + usize::from(c.code())) % ROWS
 }
