@@ -5,4 +5,11 @@
 //! Every step keeps the gate's rule (`gate_rule`). Only `take` and `take_admin` wait, and only `new` takes memory.
 #![tactic(auto)]
 
+mod admin;
+mod gate;
+mod seat;
 mod steps;
+
+pub use admin::Admin;
+pub use gate::{Gate, Spent};
+pub use seat::Seat;
