@@ -55,9 +55,28 @@ module _ {V E D O : Type 0} (M : Means V E D O) (decides : D → Decisions) (k :
       let found : m.0.trace.last.found ≡ n = ap (λ (z : Me (Option V) (View E D O)). z.0.trace.last.found) is in
       is ∙ (λ i. (gave M y (same i) (sym found i), []))
 
-  -- filling a row with a word that is one for the pass and the key
-  pub fill : (slots id : ℕ) (me : Me (Option V) (View E D O)) (n : ℕ) → me.0.role ≡ Caller n → IsInside me.0.rights.pass → (key : Key) → IsKey key → (row : ℕ) → IsRowFor decides me.0 key row
-      → (i : ℕ) → 5 ≤ i → i < 517 → Allows (Kept M decides k) slots id me i (λ _. row) (told.fills_row M decides key (step slots i row 0 none) me)
-  fill slots id me n is inside key is_key row h i from to =
-      subst (λ (x : ℕ). Allows (Kept M decides k) slots id me i (λ _. x) (told.fills_row M decides key (step slots i x 0 none) me)) (sym h.1)
-        (kept.fill_row M decides k slots id me n is _ _ (inside_is me.0.rights.pass inside) key is_key h.0 h.2 h.3 i from to)
+  -- looking at the row of the key that the step picks
+  pub see : (slots id : ℕ) (me : Me (Option V) (View E D O)) (n : ℕ) → me.0.role ≡ Caller n → IsInside me.0.rights.pass → {sought : Key} (key : Key) → sought ≡ key → IsKey key
+      → (i : ℕ) → 5 ≤ i → i < 517 → Allows (Kept M decides k) slots id me i (λ w. w) (told.sees_row M decides sought (step slots i 0 0 none) me)
+  see slots id me n is inside key same is_key i from to =
+      subst (λ (x : Key). Allows (Kept M decides k) slots id me i (λ w. w) (told.sees_row M decides x (step slots i 0 0 none) me)) (sym same)
+        (kept.see_row M decides k slots id me n is _ _ (inside_is me.0.rights.pass inside) key is_key i from to)
+
+  -- filling the row of the key that the step picks, with a word that is one for the pass and the key
+  pub fill : (slots id : ℕ) (me : Me (Option V) (View E D O)) (n : ℕ) → me.0.role ≡ Caller n → IsInside me.0.rights.pass → {sought : Key} (key : Key) → sought ≡ key → IsKey key → (row : ℕ) → IsRowFor decides me.0 key row
+      → (i : ℕ) → 5 ≤ i → i < 517 → Allows (Kept M decides k) slots id me i (λ _. row) (told.fills_row M decides sought (step slots i row 0 none) me)
+  fill slots id me n is inside key same is_key row h i from to =
+      subst (λ (y : Key). Allows (Kept M decides k) slots id me i (λ _. row) (told.fills_row M decides y (step slots i row 0 none) me)) (sym same)
+        (subst (λ (x : ℕ). Allows (Kept M decides k) slots id me i (λ _. x) (told.fills_row M decides key (step slots i x 0 none) me)) (sym h.1)
+          (kept.fill_row M decides k slots id me n is _ _ (inside_is me.0.rights.pass inside) key is_key h.0 h.2 h.3 i from to))
+
+module _ {V E D O : Type 0} (M : Means V E D O) (decides : D → Decisions) where
+  -- what the look told, said of the key and of its word
+  pub saw : (slots : ℕ) (me me' : Me (Option V) (View E D O)) (n : ℕ) {sought : Key} {i : ℕ} (key : Key) (word : ℕ) → sought ≡ key → i ≡ word → told.sees_row M decides sought (step slots i 0 0 none) me n me' → told.sees_row M decides key (step slots word 0 0 none) me n me'
+  saw slots me me' n {sought} {i} key word same at h =
+      subst (λ (x : Key). told.sees_row M decides x (step slots word 0 0 none) me n me') same (subst (λ (j : ℕ). told.sees_row M decides sought (step slots j 0 0 none) me n me') at h)
+
+  -- what the fill told, said of the key and of its word
+  pub did_fill : (slots : ℕ) (me me' : Me (Option V) (View E D O)) (n : ℕ) {sought : Key} {i : ℕ} (key : Key) (word row : ℕ) → sought ≡ key → i ≡ word → told.fills_row M decides sought (step slots i row 0 none) me n me' → told.fills_row M decides key (step slots word row 0 none) me n me'
+  did_fill slots me me' n {sought} {i} key word row same at h =
+      subst (λ (x : Key). told.fills_row M decides x (step slots word row 0 none) me n me') same (subst (λ (j : ℕ). told.fills_row M decides sought (step slots j row 0 none) me n me') at h)

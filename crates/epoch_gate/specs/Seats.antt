@@ -1,5 +1,5 @@
 -- Gates, seats and the administrator, as contracts see them.
-use Rattle.std.specs.Prelude.{◌≡◌, ℕ, ◌+◌, ◌<◌, ◌≤◌, ◌⊎◌, Bool, true, false, List, [], ◌∷◌, ◌++◌, length, Option, Some, None}
+use Rattle.std.specs.Prelude.{◌≡◌, ℕ, ◌+◌, ◌<◌, ◌≤◌, ◌⊎◌, Bool, true, false, List, [], ◌∷◌, ◌++◌, length, ◌%◌, if◌then◌else◌, Option, Some, None}
 use Rattle.atomic_table.specs.Table.{Me}
 use Rattle.atomic_table.specs.Seated.{TableId}
 use Rattle.access_vectors.specs.Decisions.{Decisions}
@@ -16,7 +16,8 @@ use Rattle.gate_rule.specs.History.{Kind, of_caller, controls, last_notice, sett
 use Rattle.gate_rule.specs.History.Kind.{Call}
 use Rattle.gate_rule.specs.Meaning.{Means}
 use Rattle.gate_rule.specs.Tickets.{word_of}
-use Rattle.gate_rule.specs.Rows.{key_row}
+use Rattle.access_vectors.specs.declared.class.Class.{Class}
+use Rattle.gate_rule.specs.Rows.{key_row, shows}
 use Rattle.gate_rule.specs.Views.{number_of, pass_version, number_in, caller_of, entries_of, entered, took}
 use Rattle.gate_rule.specs.Told.{IsAllowed, IsOwn, IsPassFor}
 
@@ -126,3 +127,11 @@ module _ {V E D O : Type 0} (M : Means V E D O) where
   LearnsAsAdmin v x =
       StartsWith (M.history x) v.seen × (last_notice M.kind (M.history x) ≡ (v.desk.newest, v.desk.version)) × (controls M.kind (M.history x) ≡ entries_of v.desk.turns)
       × ((settled_in M.kind (M.history x) ≡ v.desk.newest) ⊎ (v.desk.newest ≡ settled_in M.kind (M.history x) + 1))
+
+-- the key of a source, a target and a class
+abbrev pub key_of : ℕ → ℕ → Class → Key
+key_of s t c = record { source = s; target = t; class = c }
+
+-- the vector that a word shows of a key under a number, if it is such a row
+abbrev pub shown_vector : ℕ → Key → ℕ → Option ℕ
+shown_vector n key w = if shows n key w then Some (w % 65536) else None

@@ -7,9 +7,13 @@
 
 mod admin;
 mod gate;
+mod office;
+mod row;
 mod seat;
 mod steps;
+mod turn;
 
 pub use admin::Admin;
 pub use gate::{Gate, Spent};
+pub use office::SeatFault;
 pub use seat::Seat;

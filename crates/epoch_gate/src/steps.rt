@@ -5,7 +5,7 @@ ghost use Rattle.gate_rule.specs.declared.view.Role.TheVariants.{Admin as TheAdm
 ghost use Rattle.gate_rule.specs.declared.view.Ticket.TheVariants.{Without, Drawn};
 ghost use Rattle.gate_rule.specs.declared.view.Pass.TheVariants.{Out};
 ghost use Rattle.gate_rule.specs.History.{settled_in};
-ghost use Rattle.gate_rule.specs.Rows.{IsKey, key_word};
+ghost use Rattle.gate_rule.specs.Rows.{key_word};
 ghost use Rattle.gate_rule.specs.Tickets.{has_turn};
 ghost use Rattle.gate_rule.specs.Views.{IsLive, number_of, leave_word};
 ghost use Rattle.gate_rule.specs.Views;
@@ -13,14 +13,15 @@ ghost use Rattle.gate_rule.specs.Told.{Extends, IsOf, Takes};
 ghost use Rattle.gate_rule.specs.Told;
 ghost use Rattle.atomic_table.specs.Table.{step};
 ghost use mathlib.Core.Option.{none};
-ghost use Rattle.epoch_gate.specs.Seats.{IsAt, IsCaller, IsInside, IsRowFor};
+ghost use Rattle.epoch_gate.specs.Seats.{IsAt, IsCaller, IsInside, IsRowFor, key_of};
 
-use access_vectors::Decider;
+use access_vectors::{Class, Decider};
+use flask_sid::Sid;
 use gate_rule::{
     Count, Draw, Enter, FillRow, Give, Glance, Journal, Leave, LookRow, Make, Place, Poll, Raise,
     Retire, Sought, Words,
 };
-use row_words::raise_by;
+use row_words::{raise_by, row_place};
 
 /// A pass with the number and version of the word found.
 pub(crate) fn enter<V: Journal<D>, D: Decider>(words: &Words<V, D>, place: &mut Place<V, D>) -> u64
@@ -146,37 +147,41 @@ pub(crate) fn glance<V: Journal<D>, D: Decider>(
     words.load::<Glance>(place, 0)
 }
 
-/// The word of a row, for the key that the call picks.
+/// The word of a key's row, for the key that the call picks.
 pub(crate) fn look_row<V: Journal<D>, D: Decider, K: Sought>(
     words: &Words<V, D>,
     place: &mut Place<V, D>,
-    at: usize,
+    s: Sid,
+    t: Sid,
+    c: Class,
 ) -> u64
     requires table { IsAt words.now.table_id place.old.table_id }
     requires seat { IsCaller place.old.me.0.role × IsInside place.old.me.0.rights.pass }
-    requires key { IsKey K.sought }
-    requires at { at ≡ key_word K.sought }
+    requires key { K.sought ≡ key_of s t c }
     ensures table { place.new.table_id ≡ place.old.table_id }
-    ensures told { Told.sees_row V.means D.decides K.sought (step words.now.table_id.slots at 0 0 none) place.old.me result place.new.me }
+    ensures told { Told.sees_row V.means D.decides (key_of s t c) (step words.now.table_id.slots (key_word (key_of s t c)) 0 0 none) place.old.me result place.new.me }
 {
+    let at = 5 + row_place(s, t, c);
     words.load::<LookRow<K>>(place, at)
 }
 
-/// Another word for a row, for the key that the call picks.
+/// Another word for a key's row, for the key that the call picks.
 pub(crate) fn fill_row<V: Journal<D>, D: Decider, K: Sought>(
     words: &Words<V, D>,
     place: &mut Place<V, D>,
-    at: usize,
+    s: Sid,
+    t: Sid,
+    c: Class,
     row: u64,
 ) -> u64
     requires table { IsAt words.now.table_id place.old.table_id }
     requires seat { IsCaller place.old.me.0.role × IsInside place.old.me.0.rights.pass }
-    requires key { IsKey K.sought }
-    requires at { at ≡ key_word K.sought }
-    requires row { IsRowFor D.decides place.old.me.0 K.sought row }
+    requires key { K.sought ≡ key_of s t c }
+    requires row { IsRowFor D.decides place.old.me.0 (key_of s t c) row }
     ensures table { place.new.table_id ≡ place.old.table_id }
-    ensures told { Told.fills_row V.means D.decides K.sought (step words.now.table_id.slots at row 0 none) place.old.me result place.new.me }
+    ensures told { Told.fills_row V.means D.decides (key_of s t c) (step words.now.table_id.slots (key_word (key_of s t c)) row 0 none) place.old.me result place.new.me }
 {
+    let at = 5 + row_place(s, t, c);
     words.swap::<FillRow<K>>(place, at, row)
 }
 
