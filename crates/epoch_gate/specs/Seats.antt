@@ -1,6 +1,10 @@
 -- Gates, seats and the administrator, as contracts see them.
 use Rattle.std.specs.Prelude.{◌≡◌, ℕ, ◌+◌, ◌<◌, ◌≤◌, ◌⊎◌, Bool, true, false, List, [], ◌∷◌, ◌++◌, length, ◌%◌, if◌then◌else◌, Option, Some, None}
-use Rattle.atomic_table.specs.Table.{Me}
+use mathlib.Core.Option.{some}
+use lib.ListN.{get_elem?}
+use Rattle.gate_rule.specs.declared.journal.Terms.{Terms}
+use Rattle.gate_rule.specs.Rule.{Kept, fixed_of}
+use Rattle.atomic_table.specs.Table.{Me, State}
 use Rattle.atomic_table.specs.Seated.{TableId}
 use Rattle.access_vectors.specs.Decisions.{Decisions}
 use Rattle.gate_rule.specs.declared.view.Role.{Role}
@@ -135,3 +139,7 @@ key_of s t c = record { source = s; target = t; class = c }
 -- the vector that a word shows of a key under a number, if it is such a row
 abbrev pub shown_vector : ℕ → Key → ℕ → Option ℕ
 shown_vector n key w = if shows n key w then Some (w % 65536) else None
+
+-- at the end the table met the whole rule, and this view was the administrator's
+abbrev pub HasEnded : {V E D O : Type 0} → Means V E D O → (D → Decisions) → Fixed D O → View E D O → Type 0
+HasEnded {V = V} {E = E} {D = D} {O = O} M decides f v = (k : Terms V D) × (s : State (Option V) (View E D O)) × (id : ℕ) × Kept M decides k s × (fixed_of M k ≡ f) × (get_elem? s.views id ≡ some v)

@@ -6,6 +6,8 @@
 #![tactic(auto)]
 
 mod admin;
+mod ends;
+mod fault;
 mod gate;
 mod office;
 mod row;
@@ -14,6 +16,7 @@ mod steps;
 mod turn;
 
 pub use admin::Admin;
+pub use fault::GateFault;
 pub use gate::{Gate, Spent};
 pub use office::SeatFault;
 pub use seat::Seat;

@@ -30,6 +30,18 @@ pub struct Terms<V, D> {
     pub most: u64,
 }
 
+impl<V, D> Drop for Terms<V, D> {
+    fn drop(self) {
+        let Self {
+            decider: _,
+            first: _,
+            seats: _,
+            quota: _,
+            most: _,
+        } = self;
+    }
+}
+
 /// The rule of the gate.
 pub struct Lawful;
 
