@@ -1,5 +1,6 @@
 -- What a check does to a seat.
-use Rattle.std.specs.Prelude.{◌≡◌, ℕ, true, false, List, map}
+use Rattle.std.specs.Prelude.{◌≡◌, ℕ, true, false}
+use Rattle.std.proofs.Common.{◌∙◌, ap}
 use Rattle.access_vectors.specs.Asking.{Key as AskedKey}
 use Rattle.gate_rule.specs.declared.view.Key.{Key}
 use Rattle.gate_rule.specs.declared.view.View.{View}
@@ -23,3 +24,7 @@ IsShown key v w vector Asked =
 -- a key as askers tell it
 abbrev pub as_asked : Key → AskedKey
 as_asked key = record { source = key.source; target = key.target; class = key.class }
+
+pub IsSame-transitive : {E D O : Type 0} (a b c : Shown E D O) → IsSame a b → IsSame b c → IsSame a c
+IsSame-transitive {E} {D} {O} a b c ab bc =
+    (bc.0 ∙ ab.0, bc.1 ∙ ap (λ (v : View E D O). record v { trace = c.view.trace; served = c.view.served }) ab.1)

@@ -2,6 +2,8 @@
 //! no memory. No row is ever cleared: a row is kept by the policy number that it was made under.
 #![tactic(auto)]
 
+mod cached;
 mod rows;
 
+pub use cached::Cached;
 pub use rows::{Checked, Origin, check};
