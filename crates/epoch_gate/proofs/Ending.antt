@@ -1,10 +1,10 @@
 -- How a gate begins, and what its end gives.
-use Rattle.std.proofs.Common.{◌≡◌, ℕ, zero, suc, ◌+◌, ◌<◌, ◌≤◌, false, ◌||◌, ltb, eqb, List, [], ◌∷◌, length, get_or, replicate, sym, refl, ap, ◌∙◌, subst, Option, Some, None, arith}
+use Rattle.std.proofs.Common.{◌≡◌, ℕ, zero, suc, ◌<◌, ◌≤◌, false, List, [], ◌∷◌, length, get_or, replicate, sym, refl, ap, ◌∙◌, subst, Option, Some, arith}
 use Rattle.std.proofs.lemmas.Bool.Decides.{nat_tests}
 use mathlib.Core.Option.{some, some-injective}
 use mathlib.Core.Option as maybe
 use lib.ListN.{get_elem?, length-replicate}
-use Rattle.atomic_table.specs.Table.{State, Final, Seen, opening}
+use Rattle.atomic_table.specs.Table.{Final, Seen, opening}
 use Rattle.access_vectors.specs.Decisions.{Decisions, IsClosed}
 use Rattle.gate_rule.specs.declared.view.Role.TheVariants.{Admin}
 use Rattle.gate_rule.specs.declared.view.Ticket.TheVariants.{Without}
@@ -33,16 +33,16 @@ module _ {V E D O : Type 0} (M : Means V E D O) (decides : D → Decisions) (k :
       → IsClosed (decides d) → k.seats ≤ 64 → k.quota ≤ 536870912 → k.most ≤ 1048575 → Kept M decides k (opening ws xs (first_seat (fixed_of M k)))
   opened ws xs x zero_words one first d named fresh decider promise closed seats quota most =
       subst (λ (l : List (Option V)). Kept M decides k (opening ws l (first_seat (fixed_of M k)))) (sym one)
-        (seating.opens M decides k ws x (ap length zero_words ∙ length-replicate 517 zero) (λ i. ap (λ (l : List ℕ). get_or l i 0) zero_words ∙ zeros 517 i) (sym first) fresh (decider ∙ sym named)
-          (subst (λ (y : D). M.promise (M.opening x) y []) (sym named) promise)
-          (subst (λ (y : D). (0 < (decides y).versions) × ((decides y).versions ≤ 256)) (sym named) (closed.some_version, closed.few_versions)) seats quota (omega arith))
+      (seating.opens M decides k ws x (ap length zero_words ∙ length-replicate 517 zero) (λ i. ap (λ (l : List ℕ). get_or l i 0) zero_words ∙ zeros 517 i) (sym first) fresh (decider ∙ sym named)
+      (subst (λ (y : D). M.promise (M.opening x) y []) (sym named) promise)
+      (subst (λ (y : D). (0 < (decides y).versions) × ((decides y).versions ≤ 256)) (sym named) (closed.some_version, closed.few_versions)) seats quota (omega arith))
 
   module _ (id : ℕ) (v v' : View E D O) (ws : List ℕ) (xs : List (Option V)) (end : Final (Seen (Kept M decides k) id v) ws xs) (same : v ≡ v') where
     -- the slot has the value, of which the administrator knows this
     pub ended : v.role ≡ Admin → v'.ticket ≡ Without → v'.desk.made ≡ length v'.desk.ended → (slot : Option V) → get_elem? xs 0 ≡ some slot → (x : V) × (slot ≡ Some x) × Closes M v' x
     ended is idle all slot there =
         let w = seating.ends M decides k end.0 end.1.0 id v end.1.1 is (ap (λ (x : View E D O). x.ticket) same ∙ idle)
-            (ap (λ (x : View E D O). x.desk.made) same ∙ (all ∙ ap (λ (x : View E D O). length x.desk.ended) (sym same))) in
+        (ap (λ (x : View E D O). x.desk.made) same ∙ (all ∙ ap (λ (x : View E D O). length x.desk.ended) (sym same))) in
         let home : get_elem? xs 0 ≡ some (Some w.0) = end.4 0 (Some w.0) (ap (λ (hs : List (maybe.Option (Option V))). get_elem? hs 0) w.1) in
         (w.0, some-injective slot (Some w.0) (sym there ∙ home), subst (λ (x : View E D O). Closes M x w.0) same w.2)
 

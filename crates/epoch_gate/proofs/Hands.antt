@@ -1,9 +1,8 @@
 -- Steps as the code makes them: the value in hand around an exchange of the slot, and a row that is filled.
-use Rattle.std.proofs.Common.{◌≡◌, ℕ, ◌+◌, ◌%◌, ◌<◌, ◌≤◌, true, List, [], ◌∷◌, sym, refl, ap, ◌∙◌, subst, Option, Some, None}
+use Rattle.std.proofs.Common.{◌≡◌, ℕ, ◌+◌, ◌%◌, ◌<◌, ◌≤◌, true, List, [], ◌∷◌, sym, ap, ◌∙◌, subst, Option, Some, None}
 use mathlib.Core.Option.{none}
-use Rattle.atomic_table.specs.Table.{State, Me, Step, step, rest, Allows}
+use Rattle.atomic_table.specs.Table.{Me, step, rest, Allows}
 use Rattle.access_vectors.specs.Decisions.{Decisions}
-use Rattle.gate_rule.specs.declared.view.Role.{Role}
 use Rattle.gate_rule.specs.declared.view.Role.TheVariants.{Caller}
 use Rattle.gate_rule.specs.declared.view.Key.{Key}
 use Rattle.gate_rule.specs.declared.view.Fixed.{Fixed}
@@ -11,7 +10,7 @@ use Rattle.gate_rule.specs.declared.view.View.{View}
 use Rattle.gate_rule.specs.declared.journal.Terms.{Terms}
 use Rattle.gate_rule.specs.Meaning.{Means}
 use Rattle.gate_rule.specs.Tickets.{has_turn}
-use Rattle.gate_rule.specs.Rows.{IsKey, key_row}
+use Rattle.gate_rule.specs.Rows.{IsKey}
 use Rattle.gate_rule.specs.Views.{IsLive, took, gave}
 use Rattle.gate_rule.specs.Rule.{Kept}
 use Rattle.gate_rule.specs.Told.{Extends, IsOf, Takes}
@@ -44,8 +43,8 @@ module _ {V E D O : Type 0} (M : Means V E D O) (decides : D → Decisions) (k :
       let same : me.0 ≡ me'.0 = sym (ap (λ (z : Me (Option V) (View E D O)). z.0) after) in
       let t = turn_is me.0.ticket turn in
       giving.give M decides k slots id me' t.0 y (subst (λ (v : View E D O). IsLive v.role) same alive) (ap (λ (v : View E D O). v.ticket) (sym same) ∙ t.1)
-        (ap (λ (z : Me (Option V) (View E D O)). z.1) after ∙ ap (λ (l : List (ℕ × Option V)). (0, Some y) ∷ rest l) empty)
-        (subst (λ (v : View E D O). Extends M.kind v (M.history y)) same ext) (subst (λ (v : View E D O). (f : Fixed D O) → v.fixed ≡ Some f → IsOf M f y) same is_of)
+      (ap (λ (z : Me (Option V) (View E D O)). z.1) after ∙ ap (λ (l : List (ℕ × Option V)). (0, Some y) ∷ rest l) empty)
+      (subst (λ (v : View E D O). Extends M.kind v (M.history y)) same ext) (subst (λ (v : View E D O). (f : Fixed D O) → v.fixed ≡ Some f → IsOf M f y) same is_of)
 
   -- what a seat knows after it
   pub given_after : (me me' m : Me (Option V) (View E D O)) (y : V) (n : ℕ) → me.1 ≡ (0, None) ∷ [] → me' ≡ (me.0, (0, Some y) ∷ rest me.1) → ((z : V) → me'.1 ≡ (0, Some z) ∷ [] → m ≡ (gave M z me'.0 n, [])) → m ≡ (gave M y me.0 m.0.trace.last.found, [])
@@ -60,15 +59,15 @@ module _ {V E D O : Type 0} (M : Means V E D O) (decides : D → Decisions) (k :
       → (i : ℕ) → 5 ≤ i → i < 517 → Allows (Kept M decides k) slots id me i (λ w. w) (told.sees_row M decides sought (step slots i 0 0 none) me)
   see slots id me n is inside key same is_key i from to =
       subst (λ (x : Key). Allows (Kept M decides k) slots id me i (λ w. w) (told.sees_row M decides x (step slots i 0 0 none) me)) (sym same)
-        (kept.see_row M decides k slots id me n is _ _ (inside_is me.0.rights.pass inside) key is_key i from to)
+      (kept.see_row M decides k slots id me n is _ _ (inside_is me.0.rights.pass inside) key is_key i from to)
 
   -- filling the row of the key that the step picks, with a word that is one for the pass and the key
   pub fill : (slots id : ℕ) (me : Me (Option V) (View E D O)) (n : ℕ) → me.0.role ≡ Caller n → IsInside me.0.rights.pass → {sought : Key} (key : Key) → sought ≡ key → IsKey key → (row : ℕ) → IsRowFor decides me.0 key row
       → (i : ℕ) → 5 ≤ i → i < 517 → Allows (Kept M decides k) slots id me i (λ _. row) (told.fills_row M decides sought (step slots i row 0 none) me)
   fill slots id me n is inside key same is_key row h i from to =
       subst (λ (y : Key). Allows (Kept M decides k) slots id me i (λ _. row) (told.fills_row M decides y (step slots i row 0 none) me)) (sym same)
-        (subst (λ (x : ℕ). Allows (Kept M decides k) slots id me i (λ _. x) (told.fills_row M decides key (step slots i x 0 none) me)) (sym h.1)
-          (kept.fill_row M decides k slots id me n is _ _ (inside_is me.0.rights.pass inside) key is_key h.0 h.2 h.3 i from to))
+      (subst (λ (x : ℕ). Allows (Kept M decides k) slots id me i (λ _. x) (told.fills_row M decides key (step slots i x 0 none) me)) (sym h.1)
+      (kept.fill_row M decides k slots id me n is _ _ (inside_is me.0.rights.pass inside) key is_key h.0 h.2 h.3 i from to))
 
 module _ {V E D O : Type 0} (M : Means V E D O) (decides : D → Decisions) where
   -- what the look told, said of the key and of its word

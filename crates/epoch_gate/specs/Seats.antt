@@ -1,5 +1,5 @@
 -- Gates, seats and the administrator, as contracts see them.
-use Rattle.std.specs.Prelude.{◌≡◌, ℕ, ◌+◌, ◌<◌, ◌≤◌, ◌⊎◌, Bool, true, false, List, [], ◌∷◌, ◌++◌, length, ◌%◌, if◌then◌else◌, Option, Some, None}
+use Rattle.std.specs.Prelude.{◌≡◌, ℕ, ◌+◌, ◌<◌, ◌≤◌, ◌⊎◌, List, [], ◌∷◌, ◌++◌, length, ◌%◌, if◌then◌else◌, Option, Some, None}
 use mathlib.Core.Option.{some}
 use lib.ListN.{get_elem?}
 use Rattle.gate_rule.specs.declared.journal.Terms.{Terms}
@@ -8,7 +8,7 @@ use Rattle.atomic_table.specs.Table.{Me, State}
 use Rattle.atomic_table.specs.Seated.{TableId}
 use Rattle.access_vectors.specs.Decisions.{Decisions}
 use Rattle.gate_rule.specs.declared.view.Role.{Role}
-use Rattle.gate_rule.specs.declared.view.Role.TheVariants.{Spent, Caller, Admin}
+use Rattle.gate_rule.specs.declared.view.Role.TheVariants.{Caller, Admin}
 use Rattle.gate_rule.specs.declared.view.Ticket.{Ticket}
 use Rattle.gate_rule.specs.declared.view.Ticket.TheVariants.{Without, Drawn, Served}
 use Rattle.gate_rule.specs.declared.view.Pass.{Pass}

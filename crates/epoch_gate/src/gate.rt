@@ -17,8 +17,7 @@ use std::marker::Model;
 /// The words and the slot of a manager that many threads use, and its decider.
 #[derive(Drop)]
 pub struct Gate<'d, V: Journal<D>, D: Decider> {
-    pub(crate) table:
-        Table<Option<V>, View<V::Entry, D, V::Opening>, Terms<V, D>, Lawful, Global>,
+    pub(crate) table: Table<Option<V>, View<V::Entry, D, V::Opening>, Terms<V, D>, Lawful, Global>,
     pub(crate) decider: &'d D,
     pub(crate) seats: u8,
     pub(crate) quota: u32,

@@ -135,10 +135,7 @@ pub(crate) fn count<V: Journal<D>, D: Decider>(
 }
 
 /// A glance at the gate word.
-pub(crate) fn glance<V: Journal<D>, D: Decider>(
-    words: &Words<V, D>,
-    place: &mut Place<V, D>,
-) -> u64
+pub(crate) fn glance<V: Journal<D>, D: Decider>(words: &Words<V, D>, place: &mut Place<V, D>) -> u64
     requires table { IsAt words.now.table_id place.old.table_id }
     requires seat { place.old.me.0.role ≡ TheAdmin }
     ensures table { place.new.table_id ≡ place.old.table_id }

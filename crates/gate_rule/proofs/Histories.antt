@@ -1,10 +1,8 @@
 -- Histories with one entry more.
-use Rattle.std.proofs.Common.{◌≡◌, ◌≢◌, ℕ, zero, suc, ◌+◌, ◌<◌, ◌≤◌, ◌⊎◌, nat_le, Bool, true, false, cond, eqb, List, [], ◌∷◌, ◌++◌, length, sym, refl, ap, ◌∙◌, subst, inl, inr, ⊎_elim, append-nil, append_assoc, eq-eqb, ne_eqb, Option, Some, None, arith}
-use Rattle.std.specs.List.{fold, filter}
+use Rattle.std.proofs.Common.{◌≡◌, ℕ, ◌≤◌, Bool, true, false, cond, eqb, List, [], ◌∷◌, ◌++◌, length, sym, refl, ap, ◌∙◌, append-nil, append_assoc, eq-eqb, Option, Some, None, arith}
+use Rattle.std.specs.List.{fold}
 use Rattle.std.proofs.lemmas.List.Elements.{filter-append}
 use Rattle.std.proofs.lemmas.List.Sums.{fold_push}
-use mathlib.Core.Logic.{dite}
-use native.Mathlib.Decide.{ℕ_discrete}
 use Rattle.gate_rule.specs.declared.view.Item.{Item}
 use Rattle.gate_rule.specs.History.{Kind, is_by, is_control, noticed, settled, forced_to, dated, of_caller, controls, last_notice, settled_in, forced_in, version_of, StartsWith}
 use Rattle.gate_rule.specs.History.Kind.{Call, Notice, Ack}
@@ -51,6 +49,7 @@ module _ {E : Type 0} where
     where
       tail_same : x ∷ (xs ++ r) ≡ y ∷ (ys ++ s) → xs ++ r ≡ ys ++ s
       tail_same q = cc
+
       head_same : y ∷ (ys ++ s) ≡ x ∷ (xs ++ r) → y ≡ x
       head_same q = cc
 
@@ -110,6 +109,7 @@ module _ {E : Type 0} (kind : E → Kind) where
         where
           tail_same : x ∷ (xs ++ ys) ≡ x ∷ xs → xs ++ ys ≡ xs
           tail_same q = cc
+
       empty : (xs ys : List E) → xs ++ ys ≡ [] → xs ≡ []
       empty [] ys e = refl
       empty (x ∷ xs) ys e = absurd (cc)

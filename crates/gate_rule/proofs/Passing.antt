@@ -1,8 +1,8 @@
 -- How passes stay counted when one is entered or left, when the number is raised, cleared or settled, and when a seat is made or retired.
-use Rattle.std.proofs.Common.{◌≡◌, ◌≢◌, ℕ, zero, suc, ◌+◌, ◌-◌, ◌*◌, ◌/◌, ◌%◌, ◌<◌, ◌≤◌, ◌⊎◌, cond, eqb, true, false, List, [], ◌∷◌, ◌++◌, set, sym, refl, ap, ◌∙◌, subst, inl, inr, ⊎_elim, eq-eqb, ne_eqb, arith}
+use Rattle.std.proofs.Common.{◌≡◌, ◌≢◌, ℕ, zero, suc, ◌+◌, ◌-◌, ◌*◌, ◌%◌, ◌<◌, ◌≤◌, ◌⊎◌, cond, eqb, true, false, List, [], ◌∷◌, ◌++◌, set, sym, refl, ap, ◌∙◌, subst, inl, inr, ⊎_elim, eq-eqb, ne_eqb, arith}
 use Rattle.std.specs.List.{sum_by}
 use Rattle.std.proofs.lemmas.List.Sums.{sum_by_push}
-use mathlib.Core.Option.{some, some-injective}
+use mathlib.Core.Option.{some}
 use mathlib.Core.Logic.{dite}
 use native.Mathlib.Decide.{ℕ_discrete}
 use lib.ListN.{get_elem?}
@@ -77,19 +77,19 @@ module _ (rs : List Rights) (c a F cnt un clear : ℕ) (ver : ℕ → ℕ) (gate
         entered = r.entered + 1;
         gate_is = let g = r.gate_is in let b = few in omega arith;
         here =
-          let h = r.here in
-          let s = sum_set (inside_at (c % 2)) rs id x y at in
-          let o : at_parity (c % 2) x.pass ≡ 0 = ap (at_parity (c % 2)) out in
-          let i : at_parity (c % 2) (Inside n (version_in gate)) ≡ 1 = at_same (c % 2) n (version_in gate) (ap (λ (z : ℕ). z % 2) f.0) in
-          omega arith;
+            let h = r.here in
+            let s = sum_set (inside_at (c % 2)) rs id x y at in
+            let o : at_parity (c % 2) x.pass ≡ 0 = ap (at_parity (c % 2)) out in
+            let i : at_parity (c % 2) (Inside n (version_in gate)) ≡ 1 = at_same (c % 2) n (version_in gate) (ap (λ (z : ℕ). z % 2) f.0) in
+            omega arith;
         there =
-          let h = r.there in
-          let q = (c + 1) % 2 in
-          let s = sum_set (inside_at ((c + 1) % 2)) rs id x y at in
-          let o : at_parity ((c + 1) % 2) x.pass ≡ 0 = ap (at_parity ((c + 1) % 2)) out in
-          let e : n % 2 ≡ c % 2 = ap (λ (z : ℕ). z % 2) f.0 in
-          let i : at_parity ((c + 1) % 2) (Inside n (version_in gate)) ≡ 0 = at_other ((c + 1) % 2) n (version_in gate) (λ z. omega arith) in
-          omega arith;
+            let h = r.there in
+            let q = (c + 1) % 2 in
+            let s = sum_set (inside_at ((c + 1) % 2)) rs id x y at in
+            let o : at_parity ((c + 1) % 2) x.pass ≡ 0 = ap (at_parity ((c + 1) % 2)) out in
+            let e : n % 2 ≡ c % 2 = ap (λ (z : ℕ). z % 2) f.0 in
+            let i : at_parity ((c + 1) % 2) (Inside n (version_in gate)) ≡ 0 = at_other ((c + 1) % 2) n (version_in gate) (λ z. omega arith) in
+            omega arith;
         budget = let b = r.budget in let s = sum_set quota_of rs id x y at in omega arith;
         between = r.between;
         cleared = r.cleared;
@@ -109,17 +109,17 @@ module _ (rs : List Rights) (c a F cnt un clear : ℕ) (ver : ℕ → ℕ) (gate
         entered = r.entered;
         gate_is = r.gate_is;
         here =
-          let h = r.here in
-          let s = sum_set (inside_at (c % 2)) rs id x y at in
-          let i : at_parity (c % 2) x.pass ≡ at_parity (c % 2) (Inside n v) = ap (at_parity (c % 2)) inside in
-          let m = moved (c % 2) (omega arith) in
-          omega arith;
+            let h = r.here in
+            let s = sum_set (inside_at (c % 2)) rs id x y at in
+            let i : at_parity (c % 2) x.pass ≡ at_parity (c % 2) (Inside n v) = ap (at_parity (c % 2)) inside in
+            let m = moved (c % 2) (omega arith) in
+            omega arith;
         there =
-          let h = r.there in
-          let s = sum_set (inside_at ((c + 1) % 2)) rs id x y at in
-          let i : at_parity ((c + 1) % 2) x.pass ≡ at_parity ((c + 1) % 2) (Inside n v) = ap (at_parity ((c + 1) % 2)) inside in
-          let m = moved ((c + 1) % 2) (omega arith) in
-          omega arith;
+            let h = r.there in
+            let s = sum_set (inside_at ((c + 1) % 2)) rs id x y at in
+            let i : at_parity ((c + 1) % 2) x.pass ≡ at_parity ((c + 1) % 2) (Inside n v) = ap (at_parity ((c + 1) % 2)) inside in
+            let m = moved ((c + 1) % 2) (omega arith) in
+            omega arith;
         budget = let b = r.budget in let s = sum_set quota_of rs id x y at in omega arith;
         between = r.between;
         cleared = r.cleared;
@@ -154,9 +154,9 @@ module _ (rs : List Rights) (c a F cnt un clear : ℕ) (ver : ℕ → ℕ) (gate
         gate_is = subst (λ (z : ℕ). (gate + by) % 18446744073709551616 ≡ gate_word (c + 1) z r.entered) (sym here) (raised_word by v small known fits amount);
         here = let h = r.here in let t = r.there in omega arith;
         there =
-          let h = r.here in
-          let e : (c + 1 + 1) % 2 ≡ c % 2 = omega arith in
-          ap (λ (p : ℕ). sum_by (inside_at p) rs + left_of even odd p) e ∙ omega arith;
+            let h = r.here in
+            let e : (c + 1 + 1) % 2 ≡ c % 2 = omega arith in
+            ap (λ (p : ℕ). sum_by (inside_at p) rs + left_of even odd p) e ∙ omega arith;
         budget = r.budget;
         between = let b = r.between in (omega arith, omega arith);
         cleared = let k = r.cleared in omega arith;
@@ -173,16 +173,16 @@ module _ (rs : List Rights) (c a F cnt un clear : ℕ) (ver : ℕ → ℕ) (gate
   -- where none of the older passes is out, nothing below the newest number is, but what is below a forced one
   pub clears : c ≡ a + 1 → cnt ≤ left_of even odd ((c + 1) % 2) → Passes rs c a F cnt un c ver gate even odd
   clears pending none = record {
-      entered = r.entered;
-      gate_is = r.gate_is;
-      here = r.here;
-      there = r.there;
-      budget = r.budget;
-      between = r.between;
-      cleared = omega arith;
-      forced_is = r.forced_is;
-      each = λ j x e. go x.pass (r.each j x e) (let t = r.there in let s = sum_at (inside_at ((c + 1) % 2)) rs j x e in omega arith);
-    }
+    entered = r.entered;
+    gate_is = r.gate_is;
+    here = r.here;
+    there = r.there;
+    budget = r.budget;
+    between = r.between;
+    cleared = omega arith;
+    forced_is = r.forced_is;
+    each = λ j x e. go x.pass (r.each j x e) (let t = r.there in let s = sum_at (inside_at ((c + 1) % 2)) rs j x e in omega arith);
+  }
     where
       go : (x : Pass) → FitsPass c a F clear ver x → at_parity ((c + 1) % 2) x ≡ 0 → FitsPass c a F c ver x
       go Out h z = tt
@@ -192,16 +192,16 @@ module _ (rs : List Rights) (c a F cnt un clear : ℕ) (ver : ℕ → ℕ) (gate
   -- the newest number is settled, where all below it is clear or is forced
   pub settles : (F' : ℕ) → ((F' ≡ F) × (clear ≡ c)) ⊎ (F' ≡ c) → Passes rs c c F' cnt un clear ver gate even odd
   settles F' why = record {
-      entered = r.entered;
-      gate_is = r.gate_is;
-      here = r.here;
-      there = r.there;
-      budget = r.budget;
-      between = (omega arith, omega arith);
-      cleared = r.cleared;
-      forced_is = let f = r.forced_is in let b = r.between in ⊎_elim (λ (h : (F' ≡ F) × (clear ≡ c)). let e = h.0 in omega arith) (λ (h : F' ≡ c). omega arith) why;
-      each = λ j x e. go x.pass (r.each j x e) why;
-    }
+    entered = r.entered;
+    gate_is = r.gate_is;
+    here = r.here;
+    there = r.there;
+    budget = r.budget;
+    between = (omega arith, omega arith);
+    cleared = r.cleared;
+    forced_is = let f = r.forced_is in let b = r.between in ⊎_elim (λ (h : (F' ≡ F) × (clear ≡ c)). let e = h.0 in omega arith) (λ (h : F' ≡ c). omega arith) why;
+    each = λ j x e. go x.pass (r.each j x e) why;
+  }
     where
       split : (n : ℕ) → n ≤ c → (n < c → n < F') → (n ≡ c) ⊎ ((n ≡ c) ⊎ (n < F'))
       split n le below = dite (ℕ_discrete n c) (λ e. inl e) (λ ne. inr (inr (below (omega arith))))

@@ -1,13 +1,13 @@
 -- Lists read by place, before and after one item changes or one is added.
 use Rattle.std.proofs.Common.{◌≡◌, ◌≢◌, ℕ, zero, suc, ◌+◌, ◌<◌, ◌≤◌, ◌⊎◌, List, [], ◌∷◌, ◌++◌, map, length, get_or, set, sym, refl, ap, ◌∙◌, subst, inl, inr, ⊎_elim, get_or-set_other, get_or-set_same, arith}
-use Rattle.std.specs.List.{sum_by, filter}
-use Rattle.std.proofs.lemmas.List.Sums.{sum_by-set, sum_by-cons, sum_by_push}
+use Rattle.std.specs.List.{sum_by}
+use Rattle.std.proofs.lemmas.List.Sums.{sum_by-set, sum_by-cons}
 use mathlib.Core.Option.{some, some-injective, some-ne-none}
 use mathlib.Core.Logic.{dite}
 use native.Mathlib.Decide.{ℕ_discrete}
 use lib.ListN.{get_elem?}
 use lib.Seq.{map-set, set-get_or}
-use Rattle.atomic_table.proofs.Lists.{at_set, set_again, set_here, set_else, at_map, at_longer}
+use Rattle.atomic_table.proofs.Lists.{at_set, set_again, set_here, set_else, at_map}
 
 abbrev pick : {P : Type 0} {A : Type 0} → Dec P → A → A → A
 pick (yes _) a b = a
@@ -93,9 +93,12 @@ module _ {A : Type 0} where
   pub kept_at : (P : A → Type 0) (l : List A) (i : ℕ) (x y : A) → get_elem? l i ≡ some x → (P x → P y) → (j : ℕ) (u : A) → get_elem? l j ≡ some u → P u → (w : A) × (get_elem? (set l i y) j ≡ some w) × P w
   kept_at P l i x y at keeps j u there holds =
       dite (ℕ_discrete j i)
-        (λ e. (y, subst (λ (k : ℕ). get_elem? (set l i y) k ≡ some y) (sym e) (set_here l i y (within l i x at)),
-            keeps (subst P (some-injective u x (sym there ∙ (ap (get_elem? l) e ∙ at))) holds)))
-        (λ ne. (u, set_else l i j y ne ∙ there, holds))
+      (λ e. (
+        y,
+        subst (λ (k : ℕ). get_elem? (set l i y) k ≡ some y) (sym e) (set_here l i y (within l i x at)),
+        keeps (subst P (some-injective u x (sym there ∙ (ap (get_elem? l) e ∙ at))) holds),
+      ))
+      (λ ne. (u, set_else l i j y ne ∙ there, holds))
 
   -- the projection of a replaced item
   pub map_moved : {B : Type 0} (p : A → B) (l : List A) (i : ℕ) (y : A) (b : B) → p y ≡ b → map p (set l i y) ≡ set (map p l) i b

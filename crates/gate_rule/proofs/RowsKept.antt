@@ -1,12 +1,12 @@
 -- What rows say, and that they stay true when the number is raised.
-use Rattle.std.proofs.Common.{◌≡◌, ◌≢◌, ℕ, ◌+◌, ◌*◌, ◌/◌, ◌%◌, ◌<◌, ◌≤◌, ◌⊎◌, true, List, sym, refl, ap, ◌∙◌, subst, inl, inr, ⊎_elim, eqb-true, arith}
+use Rattle.std.proofs.Common.{◌≡◌, ℕ, ◌+◌, ◌%◌, ◌<◌, ◌≤◌, true, sym, refl, ap, ◌∙◌, inl, inr, ⊎_elim, eqb-true, arith}
 use Rattle.access_vectors.specs.declared.class.Class.{Class}
 use Rattle.access_vectors.specs.declared.class.Class.TheVariants.{File, Dir, Process, Port, Security}
 use Rattle.access_vectors.specs.Table.{code_of}
 use Rattle.access_vectors.specs.Decisions.{Decisions}
 use Rattle.row_words.specs.Words.{row_word, IsRow}
 use Rattle.gate_rule.specs.declared.view.Key.{Key}
-use Rattle.gate_rule.specs.Rows.{FitsRow, Rows, key_row, shows, IsKey}
+use Rattle.gate_rule.specs.Rows.{FitsRow, key_row, shows, IsKey}
 use Rattle.gate_rule.proofs.Places.{put, put_else}
 
 code_within : (c : Class) → (0 < code_of c) × (code_of c < 6)
@@ -39,14 +39,16 @@ module _ (decides : Decisions) (newest : ℕ) (version : ℕ → ℕ) where
     where
       is : w ≡ key_row n key (w % 65536)
       is = eqb-true w (key_row n key (w % 65536)) shows_it
+
       empty : w ≡ 0 → w % 65536 ≡ decides.vector (version n) key.source key.target key.class
       empty z = let e = is in let k = is_key.0 in absurd (omega arith)
+
       row : (n' : ℕ) × (s : ℕ) × (t : ℕ) × (c : Class) × (v : ℕ) × (w ≡ row_word n' s t c v) × IsRow n' s t v × (n' ≤ newest) × (v ≡ decides.vector (version n') s t c)
           → w % 65536 ≡ decides.vector (version n) key.source key.target key.class
       row (n', s, t, c, v, e, within, le, is_v) =
           let same = same_row n key.source key.target (w % 65536) n' s t v key.class c (sym is ∙ e) is_key.1 is_key.3 (omega arith) within.2 within.4 within.5 in
           same.4 ∙ (is_v ∙ (ap (λ (m : ℕ). decides.vector (version m) s t c) (sym same.0)
-              ∙ (ap (λ (x : ℕ). decides.vector (version n) x t c) (sym same.1) ∙ (ap (λ (x : ℕ). decides.vector (version n) key.source x c) (sym same.2) ∙ ap (λ (x : Class). decides.vector (version n) key.source key.target x) (sym same.3)))))
+          ∙ (ap (λ (x : ℕ). decides.vector (version n) x t c) (sym same.1) ∙ (ap (λ (x : ℕ). decides.vector (version n) key.source x c) (sym same.2) ∙ ap (λ (x : Class). decides.vector (version n) key.source key.target x) (sym same.3)))))
 
   -- a row of a key under a number that is not above the newest
   pub fits_key : (n : ℕ) (key : Key) (v : ℕ) → IsKey key → n ≤ newest → newest < 1048576 → v < 65536 → v ≡ decides.vector (version n) key.source key.target key.class → FitsRow decides newest version (key_row n key v)

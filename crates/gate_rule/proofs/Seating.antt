@@ -1,50 +1,40 @@
 -- The kinds of step that make a seat and retire one keep the rule; so does the opening; and what the end tells.
-use Rattle.std.proofs.Common.{◌≡◌, ◌≢◌, ℕ, zero, suc, ◌+◌, ◌-◌, ◌*◌, ◌%◌, ◌<◌, ◌≤◌, ◌⊎◌, Bool, true, false, cond, eqb, List, [], ◌∷◌, ◌++◌, map, length, get_or, set, sym, refl, ap, ◌∙◌, subst, inl, inr, ⊎_elim, length-set, ne_eqb, eq-eqb, Option, Some, None, arith}
+use Rattle.std.proofs.Common.{◌≡◌, ◌≢◌, ℕ, zero, suc, ◌+◌, ◌-◌, ◌*◌, ◌<◌, ◌≤◌, Bool, true, false, cond, List, [], ◌∷◌, ◌++◌, map, length, get_or, set, sym, refl, ap, ◌∙◌, subst, inl, inr, ⊎_elim, length-set, Option, Some, arith}
 use Rattle.std.specs.List.{sum_by}
-use mathlib.Core.Option.{some, none, some-injective, some-ne-none}
-use mathlib.Core.Option as maybe
-use mathlib.Core.Logic.{dite}
-use native.Mathlib.Decide.{ℕ_discrete}
-use lib.ListN.{get_elem?, length-map}
-use Rattle.atomic_table.specs.Table.{State, Me, Step, Act, step, keeps, takes, gives, stepped, carried_after, put_back, rest, Valid, Allows}
-use Rattle.atomic_table.proofs.Lists.{set_again, set_here, at_map}
+use mathlib.Core.Option.{some, some-injective, some-ne-none}
+use lib.ListN.{get_elem?}
+use Rattle.atomic_table.specs.Table.{State}
+use Rattle.atomic_table.proofs.Lists.{at_map}
 use Rattle.access_vectors.specs.Decisions.{Decisions}
 use Rattle.gate_rule.specs.declared.view.Role.{Role}
 use Rattle.gate_rule.specs.declared.view.Role.TheVariants.{Spent, Caller, Admin}
 use Rattle.gate_rule.specs.declared.view.Ticket.{Ticket}
-use Rattle.gate_rule.specs.declared.view.Ticket.TheVariants.{Without, Drawn, Served}
-use Rattle.gate_rule.specs.declared.view.Pass.{Pass}
-use Rattle.gate_rule.specs.declared.view.Pass.TheVariants.{Out, Inside}
+use Rattle.gate_rule.specs.declared.view.Ticket.TheVariants.{Without}
+use Rattle.gate_rule.specs.declared.view.Pass.TheVariants.{Out}
 use Rattle.gate_rule.specs.declared.view.Rights.{Rights}
 use Rattle.gate_rule.specs.declared.view.Ended.{Ended}
 use Rattle.gate_rule.specs.declared.view.Fixed.{Fixed}
 use Rattle.gate_rule.specs.declared.view.View.{View}
 use Rattle.gate_rule.specs.declared.journal.Terms.{Terms}
-use Rattle.gate_rule.specs.History.{Kind, is_by, is_control, noticed, settled, forced_to, dated, of_caller, controls, last_notice, settled_in, forced_in, version_of, StartsWith}
-use Rattle.gate_rule.specs.History.Kind.{Call, Notice, Ack}
+use Rattle.gate_rule.specs.History.{of_caller, controls, last_notice, StartsWith}
 use Rattle.gate_rule.specs.Meaning.{Means}
-use Rattle.gate_rule.specs.Tickets.{Tickets, FitsTicket, has_turn, word_of}
+use Rattle.gate_rule.specs.Tickets.{Tickets, FitsTicket, has_turn}
 use Rattle.gate_rule.specs.Passes.{Passes, FitsPass}
-use Rattle.gate_rule.specs.Rows.{Rows}
-use Rattle.gate_rule.specs.Views.{IsLive, is_caller, one_more, done, traced, missed, took, gave, mine_in, item_of, entries_of, entry_added}
-use Rattle.gate_rule.specs.Rule.{Kept, Truth, Fits, FitsRole, FitsEnded, Dated, IsNoticed, IsHome, IsOut, NoTurn, role_of, ticket_of, rights_of, fixed_of}
-use Rattle.gate_rule.specs.Told.{IsAllowed, Learns, IsOwn, Extends, IsOf, Takes, Closes, polls}
-use Rattle.gate_rule.specs.Told as told
-use Rattle.gate_rule.proofs.Places.{each_set, map_kept, map_moved, within, word_else, word_here, word_same, same_place}
+use Rattle.gate_rule.specs.Views.{IsLive, is_caller}
+use Rattle.gate_rule.specs.Rule.{Kept, Truth, Fits, FitsRole, FitsEnded, IsHome, IsOut, role_of, ticket_of, rights_of, fixed_of}
+use Rattle.gate_rule.specs.Told.{IsOf, Closes}
+use Rattle.gate_rule.proofs.Places.{each_set, map_kept, map_moved, same_place}
 use Rattle.gate_rule.proofs.Serving as serving
 use Rattle.gate_rule.proofs.Passing as passing
-use Rattle.gate_rule.proofs.Histories.{begins_here, begins_more, nothing_added, one_added, entries_more, entries_same, of_caller_own, of_caller_other, controls_own, controls_other, notice_more, settled_more, forced_more, version_more, version_last}
 use Rattle.std.proofs.Common.{nat_le, leb-true, mul-le-mul_right, suc-mul, length-append}
-use Rattle.std.proofs.lemmas.List.Sums.{sum_by_push, sum_by-cons}
-use Rattle.atomic_table.specs.Table.{Splits, Joins, Seen, Final, opening}
+use Rattle.std.proofs.lemmas.List.Sums.{sum_by_push}
+use Rattle.atomic_table.specs.Table.{Splits, Joins, opening}
 use Rattle.atomic_table.proofs.Lists.{set_else, at_longer}
-use Rattle.gate_rule.specs.declared.view.Desk.{Desk}
 use Rattle.gate_rule.specs.Views.{with_seat, new_seat, with_ended, spent_seat, first_seat, quota_in, caller_of, longer}
-use Rattle.gate_rule.proofs.Places.{put, put_here, put_else, sum_set, sum_at, each_more, at_more, map_more, kept_at}
+use Rattle.gate_rule.proofs.Places.{put, put_here, put_else, sum_set, sum_at, each_more, map_more, kept_at}
 use Rattle.gate_rule.proofs.Histories.{controls_longer}
-use Rattle.gate_rule.proofs.Numbers.{admin_is, admin_live, one_admin}
-use Rattle.gate_rule.proofs.Steps.{tickets_at, passes_at, rows_else, loads, names, no_pass, same_fixed, small, stood, pass_fits}
-
+use Rattle.gate_rule.proofs.Numbers.{admin_is, one_admin}
+use Rattle.gate_rule.proofs.Steps.{same_fixed}
 
 -- the only item of a list of one
 one_only : {A : Type 0} (P : ℕ → A → Type 0) (a : A) → P 0 a → (j : ℕ) (b : A) → get_elem? (a ∷ []) j ≡ some b → P j b
@@ -77,11 +67,11 @@ module _ {V E D O : Type 0} (M : Means V E D O) (decides : D → Decisions) (k :
       let tickets_are : map ticket_of (before ++ new ∷ []) ≡ map ticket_of s.views ++ Without ∷ [] = map_more ticket_of before new ∙ ap (λ (l : List Ticket). l ++ Without ∷ []) (map_kept ticket_of s.views id v v' at refl) in
       let quota_is : quota_in v.fixed ≡ k.quota = ap quota_in named in
       let rights_are : map rights_of (before ++ new ∷ []) ≡ map rights_of s.views ++ (record { pass = Out; quota = k.quota }) ∷ [] =
-        map_more rights_of before new ∙ (λ i. map_kept rights_of s.views id v v' at refl i ++ (record { pass = Out; quota = quota_is i }) ∷ []) in
+      map_more rights_of before new ∙ (λ i. map_kept rights_of s.views id v v' at refl i ++ (record { pass = Out; quota = quota_is i }) ∷ []) in
       let roles_are : map role_of (before ++ new ∷ []) ≡ map role_of s.views ++ Caller v.desk.made ∷ [] = map_more role_of before new ∙ ap (λ (l : List Role). l ++ Caller v.desk.made ∷ []) (map_kept role_of s.views id v v' at refl) in
       let left_is : k.seats - r.t.made ≡ suc (k.seats - (r.t.made + 1)) = omega arith in
       let unmade_is : (k.seats - (r.t.made + 1)) * k.quota + k.quota ≡ (k.seats - r.t.made) * k.quota =
-        let e : suc (k.seats - (r.t.made + 1)) * k.quota ≡ (k.seats - (r.t.made + 1)) * k.quota + k.quota = suc-mul (k.seats - (r.t.made + 1)) k.quota in sym (ap (λ (x : ℕ). x * k.quota) left_is ∙ e) in
+      let e : suc (k.seats - (r.t.made + 1)) * k.quota ≡ (k.seats - (r.t.made + 1)) * k.quota + k.quota = suc-mul (k.seats - (r.t.made + 1)) k.quota in sym (ap (λ (x : ℕ). x * k.quota) left_is ∙ e) in
       record {
         t = t';
         wide = r.wide;
@@ -89,30 +79,41 @@ module _ {V E D O : Type 0} (M : Means V E D O) (decides : D → Decisions) (k :
         numbers = subst (λ (l : List Role). sum_by is_caller l + r.t.gone ≡ r.t.made + 1) (sym roles_are) (let n = r.numbers in omega (arith, sum_by_push is_caller (map role_of s.views) (Caller v.desk.made)));
         tickets = subst (λ (l : List Ticket). Tickets l (get_or s.words 3 0) (get_or s.words 4 0)) (sym tickets_are) (serving.joins (map ticket_of s.views) (get_or s.words 3 0) (get_or s.words 4 0) r.tickets);
         passes = subst (λ (l : List Rights). Passes l r.t.newest r.t.settled r.t.forced r.t.counted ((k.seats - (r.t.made + 1)) * k.quota) r.t.clear r.t.version (get_or s.words 0 0) (get_or s.words 1 0) (get_or s.words 2 0)) (sym rights_are)
-          (passing.makes (map rights_of s.views) r.t.newest r.t.settled r.t.forced r.t.counted ((k.seats - r.t.made) * k.quota) r.t.clear r.t.version (get_or s.words 0 0) (get_or s.words 1 0) (get_or s.words 2 0) r.passes k.quota ((k.seats - (r.t.made + 1)) * k.quota) unmade_is);
+            (passing.makes (map rights_of s.views) r.t.newest r.t.settled r.t.forced r.t.counted ((k.seats - r.t.made) * k.quota) r.t.clear r.t.version (get_or s.words 0 0) (get_or s.words 1 0) (get_or s.words 2 0) r.passes k.quota ((k.seats - (r.t.made + 1)) * k.quota) unmade_is);
         rows = r.rows;
         acknowledged = r.acknowledged;
         noticed = ⊎_elim (λ e. inl e) (λ p.
-          let u = kept_at (λ (x : View E D O). (has_turn x.ticket ≡ true) × (x.role ≡ Admin)) s.views id v v' at (λ (g : _). g) 0 p.0 p.1 (p.2, p.3) in
-          inr (u.0, at_longer before (new ∷ []) 0 u.0 u.1, u.2.0, u.2.1, p.4, p.5)) r.noticed;
+            let u = kept_at (λ (x : View E D O). (has_turn x.ticket ≡ true) × (x.role ≡ Admin)) s.views id v v' at (λ (g : _). g) 0 p.0 p.1 (p.2, p.3) in
+            inr (u.0, at_longer before (new ∷ []) 0 u.0 u.1, u.2.0, u.2.1, p.4, p.5)) r.noticed;
         dated = r.dated;
         begins = r.begins;
         promised = r.promised;
-        place = ⊎_elim (λ p. inl (p.0, p.1, p.2, each_more (λ j (x : View E D O). has_turn x.ticket ≡ false) before new refl
-            (each_set (λ j (x : View E D O). has_turn x.ticket ≡ false) s.views id v' (p.3 id v at) (λ j x other e. p.3 j x e)), p.4, p.5))
-          (λ p.
+        place = ⊎_elim (λ p. inl (
+          p.0,
+          p.1,
+          p.2,
+          each_more (λ j (x : View E D O). has_turn x.ticket ≡ false) before new refl
+              (each_set (λ j (x : View E D O). has_turn x.ticket ≡ false) s.views id v' (p.3 id v at) (λ j x other e. p.3 j x e)),
+          p.4,
+          p.5,
+        ))
+            (λ p.
             let u = kept_at (λ (x : View E D O). (has_turn x.ticket ≡ true) × (x.seen ≡ r.t.log)) s.views id v v' at (λ (g : _). g) p.0 p.1 p.3 (p.4, p.5) in
             inr (p.0, u.0, p.2, at_longer before (new ∷ []) p.0 u.0 u.1, u.2.0, u.2.1)) r.place;
         each = each_more (Fits M (fixed_of M k) t') before new
-          (record { seen = (r.t.log, refl); promised = r.begins; noticed = omega arith; role = new_role r h named here })
-          (each_set (Fits M (fixed_of M k) t') s.views id v'
+            (record { seen = (r.t.log, refl); promised = r.begins; noticed = omega arith; role = new_role r h named here })
+            (each_set (Fits M (fixed_of M k) t') s.views id v'
             (let z = r.each id v at in record {
-              seen = z.seen; promised = z.promised; noticed = z.noticed;
+              seen = z.seen;
+              promised = z.promised;
+              noticed = z.noticed;
               role = subst (FitsRole M (fixed_of M k) (record r.t { made = r.t.made + 1; holder = put r.t.holder r.t.made here; live = put r.t.live r.t.made true }) id v') (sym is)
-                (h.0, ap (λ (x : ℕ). x + 1) h.1, h.2, (λ i e there. ended_made r.t here e (h.3 i e there)), h.4, h.5, h.6, h.7, h.8, h.9, h.10, h.11);
+                  (h.0, ap (λ (x : ℕ). x + 1) h.1, h.2, (λ i e there. ended_made r.t here e (h.3 i e there)), h.4, h.5, h.6, h.7, h.8, h.9, h.10, h.11);
             })
             (λ j u other e. let z = r.each j u e in record {
-              seen = z.seen; promised = z.promised; noticed = z.noticed;
+              seen = z.seen;
+              promised = z.promised;
+              noticed = z.noticed;
               role = stays_made r.t j here u u.role z.role (λ admin. one_admin M decides k s r id v at is j other u r.t (subst (FitsRole M (fixed_of M k) r.t j u) admin z.role));
             }));
         unmade = λ n le. r.unmade n (omega arith);
@@ -122,7 +123,7 @@ module _ {V E D O : Type 0} (M : Means V E D O) (decides : D → Decisions) (k :
           → FitsRole M (fixed_of M k) (record r.t { made = r.t.made + 1; holder = put r.t.holder r.t.made here; live = put r.t.live r.t.made true }) here (new_seat v) (Caller v.desk.made)
       new_role r h named here =
           subst (λ (x : ℕ). FitsRole M (fixed_of M k) (record r.t { made = r.t.made + 1; holder = put r.t.holder r.t.made here; live = put r.t.live r.t.made true }) here (new_seat v) (Caller x)) (sym h.1)
-            (omega arith, put_here r.t.holder r.t.made here, put_here r.t.live r.t.made true, sym (r.unmade r.t.made (omega arith)), named)
+          (omega arith, put_here r.t.holder r.t.made here, put_here r.t.live r.t.made true, sym (r.unmade r.t.made (omega arith)), named)
 
   -- a retired number changes nothing of the other seats
   stays_live : (t : Truth E) (n other : ℕ) → t.holder n ≡ other → (j : ℕ) → j ≢ other → (u : View E D O) (role : Role) → FitsRole M (fixed_of M k) t j u role → (role ≡ Admin → ⊥)
@@ -170,43 +171,62 @@ module _ {V E D O : Type 0} (M : Means V E D O) (decides : D → Decisions) (k :
         wide = r.wide;
         seats = (length-set before other spent ∙ (length-set s.views id v' ∙ r.seats.0), r.seats.1, r.seats.2);
         numbers = subst (λ (l : List Role). sum_by is_caller l + (r.t.gone + 1) ≡ r.t.made) (sym roles_are)
-          (let x = sum_set is_caller (map role_of s.views) other (Caller n) Spent (at_map role_of s.views other w old ∙ ap some caller) in let y = r.numbers in omega arith);
+            (let x = sum_set is_caller (map role_of s.views) other (Caller n) Spent (at_map role_of s.views other w old ∙ ap some caller) in let y = r.numbers in omega arith);
         tickets = subst (λ (l : List Ticket). Tickets l (get_or s.words 3 0) (get_or s.words 4 0)) (sym tickets_are) r.tickets;
         passes = subst (λ (l : List Rights). Passes l r.t.newest r.t.settled r.t.forced r.t.counted ((k.seats - r.t.made) * k.quota) r.t.clear r.t.version (get_or s.words 0 0) (get_or s.words 1 0) (get_or s.words 2 0)) (sym rights_are)
-          (passing.retires (map rights_of s.views) r.t.newest r.t.settled r.t.forced r.t.counted ((k.seats - r.t.made) * k.quota) r.t.clear r.t.version (get_or s.words 0 0) (get_or s.words 1 0) (get_or s.words 2 0) r.passes other w.rights (at_map rights_of s.views other w old) out);
+            (passing.retires (map rights_of s.views) r.t.newest r.t.settled r.t.forced r.t.counted ((k.seats - r.t.made) * k.quota) r.t.clear r.t.version (get_or s.words 0 0) (get_or s.words 1 0) (get_or s.words 2 0) r.passes other w.rights (at_map rights_of s.views other w old) out);
         rows = r.rows;
         acknowledged = r.acknowledged;
         noticed = ⊎_elim (λ e. inl e) (λ p.
-          let e : p.0 ≡ v = same_place s.views id p.0 v (subst (λ (j : ℕ). get_elem? s.views j ≡ some p.0) (sym h.0) p.1) at in
-          let turn : has_turn v.ticket ≡ true = subst (λ (x : View E D O). has_turn x.ticket ≡ true) e p.2 in absurd (cc)) r.noticed;
+            let e : p.0 ≡ v = same_place s.views id p.0 v (subst (λ (j : ℕ). get_elem? s.views j ≡ some p.0) (sym h.0) p.1) at in
+            let turn : has_turn v.ticket ≡ true = subst (λ (x : View E D O). has_turn x.ticket ≡ true) e p.2 in absurd (cc)) r.noticed;
         dated = r.dated;
         begins = r.begins;
         promised = r.promised;
         place = ⊎_elim
-          (λ p. inl (p.0, p.1, p.2, each_set (λ j (x : View E D O). has_turn x.ticket ≡ false) before other spent refl
-            (λ j x ne e. each_set (λ j (x : View E D O). has_turn x.ticket ≡ false) s.views id v' no_turn_here (λ j x ne e. p.3 j x e) j x e), p.4, p.5))
-          (λ p.
+            (λ p. inl (
+              p.0,
+              p.1,
+              p.2,
+              each_set (λ j (x : View E D O). has_turn x.ticket ≡ false) before other spent refl
+                  (λ j x ne e. each_set (λ j (x : View E D O). has_turn x.ticket ≡ false) s.views id v' no_turn_here (λ j x ne e. p.3 j x e) j x e),
+              p.4,
+              p.5,
+            ))
+            (λ p.
             let not_id : p.0 ≢ id = λ e. let z : p.1 ≡ v = same_place s.views id p.1 v (subst (λ (j : ℕ). get_elem? s.views j ≡ some p.1) e p.3) at in let turn : has_turn v.ticket ≡ true = subst (λ (x : View E D O). has_turn x.ticket ≡ true) z p.4 in absurd (cc) in
             let not_other : p.0 ≢ other = λ e. let z : p.1 ≡ w = same_place s.views other p.1 w (subst (λ (j : ℕ). get_elem? s.views j ≡ some p.1) e p.3) old in
-              let turn : has_turn w.ticket ≡ true = subst (λ (x : View E D O). has_turn x.ticket ≡ true) z p.4 in let no : has_turn w.ticket ≡ false = ap has_turn waits in absurd (cc) in
+            let turn : has_turn w.ticket ≡ true = subst (λ (x : View E D O). has_turn x.ticket ≡ true) z p.4 in let no : has_turn w.ticket ≡ false = ap has_turn waits in absurd (cc) in
             inr (p.0, p.1, p.2, set_else before other p.0 spent not_other ∙ (set_else s.views id p.0 v' not_id ∙ p.3), p.4, p.5)) r.place;
         each = each_set (Fits M (fixed_of M k) t') before other spent
-          (record { seen = (r.t.log, refl); promised = r.begins; noticed = omega arith; role = (refl, refl) })
-          (λ j u ne e. each_set (λ j (u : View E D O). j ≢ other → Fits M (fixed_of M k) t' j u) s.views id v'
+            (record { seen = (r.t.log, refl); promised = r.begins; noticed = omega arith; role = (refl, refl) })
+            (λ j u ne e. each_set (λ j (u : View E D O). j ≢ other → Fits M (fixed_of M k) t' j u) s.views id v'
             (λ _. record {
               seen = longer_fits (fixed_of M k) r.t.log v.seen w.seen r.t.newest (StartsWith r.t.log) mine.seen fit.seen;
               promised = longer_fits (fixed_of M k) r.t.log v.seen w.seen r.t.newest (M.promise (fixed_of M k).opening (fixed_of M k).decider) mine.promised fit.promised;
               noticed = longer_fits (fixed_of M k) r.t.log v.seen w.seen r.t.newest (λ l. (last_notice M.kind l).0 ≤ r.t.newest) mine.noticed fit.noticed;
-              role = subst (FitsRole M (fixed_of M k) (record r.t { gone = r.t.gone + 1; live = put r.t.live n false }) id v') (sym is)
-                (h.0, h.1, (let x = length-append v.desk.ended ((record { number = caller_of w.role; entries = w.mine }) ∷ []) in let y = h.2 in omega arith),
-                  each_more (λ i (e : Ended E). FitsEnded M (record r.t { gone = r.t.gone + 1; live = put r.t.live n false }) e) v.desk.ended (record { number = caller_of w.role; entries = w.mine })
+              role = subst (FitsRole M (fixed_of M k) (record r.t { gone = r.t.gone + 1; live = put r.t.live n false }) id v') (sym is) (
+                h.0,
+                h.1,
+                (let x = length-append v.desk.ended ((record { number = caller_of w.role; entries = w.mine }) ∷ []) in let y = h.2 in omega arith),
+                each_more (λ i (e : Ended E). FitsEnded M (record r.t { gone = r.t.gone + 1; live = put r.t.live n false }) e) v.desk.ended (record { number = caller_of w.role; entries = w.mine })
                     (let num : caller_of w.role ≡ n = ap caller_of caller in
-                      (subst (λ (x : ℕ). x < r.t.made) (sym num) own.0, ap (put r.t.live n false) num ∙ put_here r.t.live n false, own.3 ∙ ap (λ (x : ℕ). of_caller M.kind x r.t.log) (sym num)))
+                    (subst (λ (x : ℕ). x < r.t.made) (sym num) own.0, ap (put r.t.live n false) num ∙ put_here r.t.live n false, own.3 ∙ ap (λ (x : ℕ). of_caller M.kind x r.t.log) (sym num)))
                     (λ i e at_i. let z = h.3 i e at_i in (z.0, put_else r.t.live n false e.number (λ q. let a : r.t.live e.number ≡ true = ap r.t.live q ∙ own.2 in let b = z.1 in absurd (cc)) ∙ z.1, z.2)),
-                  h.4, h.5, h.6, h.7, h.8, longer_controls r.t.log v.seen w.seen mine.seen fit.seen (h.8 ∙ sym h.9) ∙ h.9, h.10, h.11);
+                h.4,
+                h.5,
+                h.6,
+                h.7,
+                h.8,
+                longer_controls r.t.log v.seen w.seen mine.seen fit.seen (h.8 ∙ sym h.9) ∙ h.9,
+                h.10,
+                h.11,
+              );
             })
             (λ j u not_id e not_other. let z = r.each j u e in record {
-              seen = z.seen; promised = z.promised; noticed = z.noticed;
+              seen = z.seen;
+              promised = z.promised;
+              noticed = z.noticed;
               role = stays_live r.t n other own.1 j not_other u u.role z.role (λ admin. one_admin M decides k s r id v at is j not_id u r.t (subst (FitsRole M (fixed_of M k) r.t j u) admin z.role));
             }) j u e ne);
         unmade = r.unmade;
@@ -226,11 +246,14 @@ module _ {V E D O : Type 0} (M : Means V E D O) (decides : D → Decisions) (k :
         numbers = refl;
         tickets = record { drawn = 0; served = 0; owner = λ n. 0; next_is = empty 3; serving_is = empty 4; counted = refl; each = one_only (λ j t. FitsTicket 0 0 (λ n. 0) j t) Without tt };
         passes = record {
-          entered = 0; gate_is = empty 0;
+          entered = 0;
+          gate_is = empty 0;
           here = (let a = empty 1 in let z : (get_or ws 1 0) ≡ 0 = a in omega arith);
           there = (let a = empty 2 in let z : (get_or ws 2 0) ≡ 0 = a in omega arith);
           budget = (let a : (k.seats - 0) * k.quota ≤ 64 * k.quota = mul-le-mul_right k.quota (omega arith) in omega arith);
-          between = (omega arith, omega arith); cleared = omega arith; forced_is = omega arith;
+          between = (omega arith, omega arith);
+          cleared = omega arith;
+          forced_is = omega arith;
           each = one_only (λ j (z : Rights). FitsPass 0 0 0 0 (λ n. 0) z.pass) (record { pass = Out; quota = 0 }) tt;
         };
         rows = λ i from to. inl (empty i);
@@ -241,7 +264,7 @@ module _ {V E D O : Type 0} (M : Means V E D O) (decides : D → Decisions) (k :
         promised = begins;
         place = inl (x, refl, fresh, one_only (λ j (u : View E D O). has_turn u.ticket ≡ false) (first_seat (fixed_of M k)) refl, ap M.opening first, decider);
         each = one_only (Fits M (fixed_of M k) (record { log = []; made = 0; gone = 0; holder = λ n. 0; live = λ n. false; newest = 0; settled = 0; counted = 0; clear = 0; forced = 0; version = λ n. 0 })) (first_seat (fixed_of M k))
-          (record { seen = ([], refl); promised = begins; noticed = omega arith; role = (refl, refl, refl, (λ i e there. absurd (some-ne-none e (sym there))), refl, refl, refl, refl, refl, refl, refl, refl) });
+            (record { seen = ([], refl); promised = begins; noticed = omega arith; role = (refl, refl, refl, (λ i e there. absurd (some-ne-none e (sym there))), refl, refl, refl, refl, refl, refl, refl, refl) });
         unmade = λ n le. refl;
       }
 
@@ -252,22 +275,32 @@ module _ {V E D O : Type 0} (M : Means V E D O) (decides : D → Decisions) (k :
     where
       h : FitsRole M (fixed_of M k) r.t id v Admin
       h = admin_is M decides k s r id v at is
+
       no_callers : sum_by is_caller (map role_of s.views) ≡ 0
       no_callers = let n = r.numbers in let a = h.1 in let b = h.2 in let c = all in omega arith
+
       nobody : (j : ℕ) (u : View E D O) → get_elem? s.views j ≡ some u → (role : Role) → u.role ≡ role → FitsRole M (fixed_of M k) r.t j u role → has_turn u.ticket ≡ false
       nobody j u there Spent e f = f.0
       nobody j u there (Caller n) e f = let le = sum_at is_caller (map role_of s.views) j (Caller n) (at_map role_of s.views j u there ∙ ap some e) in let z = no_callers in absurd (omega arith)
       nobody j u there Admin e f =
           let same : u ≡ v = same_place s.views id u v (subst (λ (i : ℕ). get_elem? s.views i ≡ some u) (f.0 ∙ sym h.0) there) at in ap (λ (x : View E D O). has_turn x.ticket) same ∙ ap has_turn idle
+
       last : last_notice M.kind r.t.log ≡ (r.t.newest, r.t.version r.t.newest)
       last = ⊎_elim (λ e. e) (λ p. let o : has_turn p.0.ticket ≡ false = nobody 0 p.0 p.1 p.0.role refl (r.each 0 p.0 p.1).role in let t = p.2 in absurd (cc)) r.noticed
+
       home : IsHome M (fixed_of M k) s.homes r.t.log s.views → (x : V) × (s.homes ≡ some (Some x) ∷ []) × Closes M v x
-      home p = (p.0, p.1,
-        ((λ f e. let same : fixed_of M k ≡ f = same_fixed M decides k s r id v at (subst IsLive (sym is) tt) f e in
-            subst (λ (y : Fixed D O). IsOf M y p.0) same (p.4, p.5, subst (M.promise (fixed_of M k).opening (fixed_of M k).decider) (sym p.2) r.promised)),
+      home p = (
+        p.0,
+        p.1,
+        (
+          (λ f e. let same : fixed_of M k ≡ f = same_fixed M decides k s r id v at (subst IsLive (sym is) tt) f e in
+              subst (λ (y : Fixed D O). IsOf M y p.0) same (p.4, p.5, subst (M.promise (fixed_of M k).opening (fixed_of M k).decider) (sym p.2) r.promised)),
           ap (controls M.kind) p.2 ∙ h.8,
           (λ i e there. (h.3 i e there).2 ∙ ap (of_caller M.kind e.number) (sym p.2)),
           subst (λ (l : List E). StartsWith l v.seen) (sym p.2) (r.each id v at).seen,
-          ap (last_notice M.kind) p.2 ∙ (last ∙ (λ i. (sym h.4 i, sym h.5 i)))))
+          ap (last_notice M.kind) p.2 ∙ (last ∙ (λ i. (sym h.4 i, sym h.5 i))),
+        ),
+      )
+
       out : IsOut s.homes r.t.log s.views → (x : V) × (s.homes ≡ some (Some x) ∷ []) × Closes M v x
       out p = let o : has_turn p.1.ticket ≡ false = nobody p.0 p.1 p.3 p.1.role refl (r.each p.0 p.1 p.3).role in let t = p.4 in absurd (cc)

@@ -1,5 +1,5 @@
 -- The rule of a gate, in eight parts: entry budget, passes counted and pass numbers (`passes`), cached rows (`rows`), the turn (`tickets`, `place`), the value at rest (`noticed`, `dated`, `place`), the histories seen (`each`, `promised`, `unmade`) and clearance (in `passes`).
-use Rattle.std.specs.Prelude.{◌≡◌, ℕ, ◌+◌, ◌-◌, ◌*◌, ◌<◌, ◌≤◌, ◌⊎◌, Bool, true, false, List, [], ◌∷◌, map, length, slice_index, Option, Some, None}
+use Rattle.std.specs.Prelude.{◌≡◌, ℕ, ◌+◌, ◌-◌, ◌*◌, ◌<◌, ◌≤◌, ◌⊎◌, Bool, true, false, List, [], ◌∷◌, map, length, slice_index, Option, Some}
 use Rattle.std.specs.List.{sum_by}
 use mathlib.Core.Option.{some, none}
 use mathlib.Core.Option as maybe

@@ -1,5 +1,5 @@
 -- What a seat knows after each kind of step, as a function of what it knew and of the word that the step found.
-use Rattle.std.specs.Prelude.{◌≡◌, ℕ, ◌+◌, ◌-◌, ◌%◌, ◌==◌, nat_le, Bool, true, false, cond, List, [], ◌∷◌, ◌++◌, length, Option, Some, None}
+use Rattle.std.specs.Prelude.{ℕ, ◌+◌, ◌-◌, ◌%◌, ◌==◌, nat_le, cond, List, [], ◌∷◌, ◌++◌, length, Option, Some, None}
 use Rattle.row_words.specs.Words.{split_gate}
 use Rattle.gate_rule.specs.declared.view.Role.{Role}
 use Rattle.gate_rule.specs.declared.view.Role.TheVariants.{Spent, Caller, Admin}
@@ -9,7 +9,6 @@ use Rattle.gate_rule.specs.declared.view.Pass.TheVariants.{Out, Inside}
 use Rattle.gate_rule.specs.declared.view.StepDone.{StepDone}
 use Rattle.gate_rule.specs.declared.view.Trace.{Trace}
 use Rattle.gate_rule.specs.declared.view.Item.{Item}
-use Rattle.gate_rule.specs.declared.view.Ended.{Ended}
 use Rattle.gate_rule.specs.declared.view.Desk.{Desk}
 use Rattle.gate_rule.specs.declared.view.Fixed.{Fixed}
 use Rattle.gate_rule.specs.declared.view.Key.{Key}
@@ -152,8 +151,16 @@ module _ {E D O : Type 0} where
   -- the seat that it made
   abbrev pub new_seat : View E D O → View E D O
   new_seat v = record {
-    role = Caller v.desk.made; ticket = Without; trace = untraced; rights = record { pass = Out; quota = quota_in v.fixed };
-    seen = []; mine = []; served = []; follows = []; desk = blank_desk; fixed = v.fixed;
+    role = Caller v.desk.made;
+    ticket = Without;
+    trace = untraced;
+    rights = record { pass = Out; quota = quota_in v.fixed };
+    seen = [];
+    mine = [];
+    served = [];
+    follows = [];
+    desk = blank_desk;
+    fixed = v.fixed;
   }
 
   -- the administrator with a retired seat's entries, and the longer history of the two
@@ -166,15 +173,31 @@ module _ {E D O : Type 0} where
   -- a seat that was given up
   abbrev pub spent_seat : View E D O
   spent_seat = record {
-    role = Spent; ticket = Without; trace = untraced; rights = record { pass = Out; quota = 0 };
-    seen = []; mine = []; served = []; follows = []; desk = blank_desk; fixed = None;
+    role = Spent;
+    ticket = Without;
+    trace = untraced;
+    rights = record { pass = Out; quota = 0 };
+    seen = [];
+    mine = [];
+    served = [];
+    follows = [];
+    desk = blank_desk;
+    fixed = None;
   }
 
   -- the first seat, the administrator's
   abbrev pub first_seat : Fixed D O → View E D O
   first_seat f = record {
-    role = Admin; ticket = Without; trace = untraced; rights = record { pass = Out; quota = 0 };
-    seen = []; mine = []; served = []; follows = []; desk = blank_desk; fixed = Some f;
+    role = Admin;
+    ticket = Without;
+    trace = untraced;
+    rights = record { pass = Out; quota = 0 };
+    seen = [];
+    mine = [];
+    served = [];
+    follows = [];
+    desk = blank_desk;
+    fixed = Some f;
   }
 
 module _ {V E D O : Type 0} (M : Means V E D O) where
@@ -187,7 +210,10 @@ module _ {V E D O : Type 0} (M : Means V E D O) where
   -- the turn, with this value
   abbrev pub took : V → View E D O → ℕ → View E D O
   took x v n = record v {
-    ticket = Served n; trace = traced v.trace (done 4 n n); seen = M.history x; follows = M.follows x;
+    ticket = Served n;
+    trace = traced v.trace (done 4 n n);
+    seen = M.history x;
+    follows = M.follows x;
     desk = record v.desk { looked = None; found = M.stale x };
   }
 
@@ -198,6 +224,9 @@ module _ {V E D O : Type 0} (M : Means V E D O) where
   -- the turn passed on, with this value
   abbrev pub gave : V → View E D O → ℕ → View E D O
   gave y v n = record v {
-    ticket = Without; trace = traced v.trace (done 4 n (one_more n)); seen = M.history y; mine = mine_in v.role v.mine (M.history y);
+    ticket = Without;
+    trace = traced v.trace (done 4 n (one_more n));
+    seen = M.history y;
+    mine = mine_in v.role v.mine (M.history y);
     desk = record v.desk { left = M.stale y; turns = v.desk.turns ++ item_of v y ∷ [] };
   }

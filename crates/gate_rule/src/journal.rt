@@ -64,5 +64,7 @@ pub type Words<V, D> = Shared<
 >;
 
 /// A seat at the table.
-pub type Place<V, D> =
-    Seat<Option<V>, View<<V as Journal<D>>::Entry, D, <V as Journal<D>>::Opening>>;
+pub type Place<V, D> = Seat<
+    Option<V>,
+    View<<V as Journal<D>>::Entry, D, <V as Journal<D>>::Opening>,
+>;

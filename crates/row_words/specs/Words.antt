@@ -1,5 +1,5 @@
 -- How the words of a table are packed.
-use Rattle.std.specs.Prelude.{◌≡◌, ℕ, ◌+◌, ◌*◌, ◌/◌, ◌%◌, ◌<◌, ◌≤◌, ◌⊎◌, ◌==◌, ◌||◌, Option, Some, None, if◌then◌else◌}
+use Rattle.std.specs.Prelude.{◌≡◌, ℕ, ◌+◌, ◌*◌, ◌/◌, ◌%◌, ◌<◌, ◌⊎◌, ◌==◌, ◌||◌, Option, Some, None, if◌then◌else◌}
 use Rattle.access_vectors.specs.Table.{code_of, class_coded}
 use Rattle.access_vectors.specs.declared.class.Class.{Class}
 

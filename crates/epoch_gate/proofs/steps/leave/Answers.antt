@@ -1,4 +1,4 @@
-use Rattle.std.proofs.Common.{rules, arith, ap, sym}
+use Rattle.std.proofs.Common.{arith, ap, sym}
 use Rattle.gate_rule.specs.Views.{leave_word}
 use Rattle.gate_rule.proofs.Steps as kept
 use Rattle.epoch_gate.proofs.Passed.{inside_is}

@@ -1,4 +1,4 @@
-use Rattle.std.proofs.Common.{◌≡◌, ◌∷◌, [], Some, ◌∙◌, sym, ap, rules}
+use Rattle.std.proofs.Common.{◌∷◌, Some, ◌∙◌, sym, ap, rules}
 use Rattle.atomic_table.specs.Table.{rest}
 use Rattle.gate_rule.specs.Tickets.{word_of}
 use Rattle.gate_rule.proofs.Turns as kept
