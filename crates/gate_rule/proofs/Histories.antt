@@ -1,10 +1,10 @@
 -- Histories with one entry more.
-use Rattle.std.proofs.Common.{◌≡◌, ℕ, ◌≤◌, Bool, true, false, cond, eqb, List, [], ◌∷◌, ◌++◌, length, sym, refl, ap, ◌∙◌, append-nil, append_assoc, eq-eqb, Option, Some, None, arith}
+use Rattle.std.proofs.Common.{subst, ◌≡◌, ℕ, ◌≤◌, Bool, true, false, cond, eqb, List, [], ◌∷◌, ◌++◌, length, sym, refl, ap, ◌∙◌, append-nil, append_assoc, eq-eqb, Option, Some, None, arith}
 use Rattle.std.specs.List.{fold}
 use Rattle.std.proofs.lemmas.List.Elements.{filter-append}
 use Rattle.std.proofs.lemmas.List.Sums.{fold_push}
 use Rattle.gate_rule.specs.declared.view.Item.{Item}
-use Rattle.gate_rule.specs.History.{Kind, is_by, is_control, noticed, settled, forced_to, dated, of_caller, controls, last_notice, settled_in, forced_in, version_of, StartsWith}
+use Rattle.gate_rule.specs.History.{Kind, is_by, is_control, noticed, settled, forced_to, dated, of_caller, controls, last_notice, settled_in, forced_in, version_of, MayCome, Alternates, StartsWith}
 use Rattle.gate_rule.specs.History.Kind.{Call, Notice, Ack}
 use Rattle.gate_rule.specs.Views.{entry_added, entries_of, with_entry}
 
@@ -120,3 +120,20 @@ module _ {E : Type 0} (kind : E → Kind) where
       let m = begins_longer a b ha.0 hb.0 (sym ha.1 ∙ hb.1) le in
       let whole : log ≡ a ++ (m.0 ++ hb.0) = hb.1 ∙ (ap (λ (l : List E). l ++ hb.0) m.1 ∙ append_assoc a m.0 hb.0) in
       ap (controls kind) m.1 ∙ controls_between a m.0 hb.0 (ap (controls kind) (sym whole) ∙ same)
+
+  newest_apart : (p : ℕ × ℕ) (k : Kind) → (noticed (p.0, 0) k).0 ≡ (noticed p k).0
+  newest_apart p (Call caller mark number) = refl
+  newest_apart p (Notice number version) = refl
+  newest_apart p (Ack number forced) = refl
+
+  alternates_from : (versions a : ℕ) (p : ℕ × ℕ) (log : List E) (e : E) → Alternates kind versions a p.0 log → MayCome versions (fold (λ b x. settled b (kind x)) a log) (fold (λ q x. noticed q (kind x)) p log).0 (kind e)
+      → Alternates kind versions a p.0 (log ++ e ∷ [])
+  alternates_from versions a p [] e h may = (may, tt)
+  alternates_from versions a p (x ∷ xs) e h may =
+      let same = newest_apart p (kind x) in
+      (h.0, subst (λ (c : ℕ). Alternates kind versions (settled a (kind x)) c (xs ++ e ∷ [])) (sym same)
+        (alternates_from versions (settled a (kind x)) (noticed p (kind x)) xs e (subst (λ (c : ℕ). Alternates kind versions (settled a (kind x)) c xs) same h.1) may))
+
+  -- one more entry that may come
+  pub alternates_more : (versions : ℕ) (log : List E) (e : E) → Alternates kind versions 0 0 log → MayCome versions (settled_in kind log) (last_notice kind log).0 (kind e) → Alternates kind versions 0 0 (log ++ e ∷ [])
+  alternates_more versions log e h may = alternates_from versions 0 (0, 0) log e h may
