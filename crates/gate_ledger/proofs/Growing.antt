@@ -1,7 +1,6 @@
 -- Turns that add one line or none, as the gate tells of them.
-use Rattle.std.proofs.Common.{◌≡◌, ◌≢◌, ℕ, ◌+◌, ◌-◌, ◌<◌, ◌≤◌, ◌⊎◌, cond, eqb, true, List, [], ◌∷◌, ◌++◌, sym, refl, ap, ◌∙◌, subst, inl, inr, ⊎_elim, eq-eqb, Option, Some, None, arith}
+use Rattle.std.proofs.Common.{◌≡◌, ℕ, ◌+◌, ◌-◌, ◌≤◌, cond, eqb, List, [], ◌∷◌, ◌++◌, sym, ap, ◌∙◌, subst, inr, eq-eqb, Option, Some, None, arith}
 use Rattle.gate_rule.specs.declared.view.Item.{Item}
-use Rattle.gate_rule.specs.declared.view.Role.{Role}
 use Rattle.gate_rule.specs.declared.view.Role.TheVariants.{Caller}
 use Rattle.gate_rule.specs.declared.view.Pass.TheVariants.{Inside}
 use Rattle.gate_rule.specs.declared.view.View.{View}

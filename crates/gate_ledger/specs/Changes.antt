@@ -1,5 +1,5 @@
 -- What the administrator knows after an acknowledgement.
-use Rattle.std.specs.Prelude.{◌≡◌, ℕ, ◌<◌, List, [], ◌∷◌, ◌++◌, Option, Some, None}
+use Rattle.std.specs.Prelude.{◌≡◌, ℕ, ◌<◌, [], ◌∷◌, ◌++◌, Option, Some, None}
 use Rattle.gate_rule.specs.declared.view.Item.{Item}
 use Rattle.gate_rule.specs.declared.view.View.{View}
 use Rattle.gate_ledger.specs.declared.ledger.Line.{Line}

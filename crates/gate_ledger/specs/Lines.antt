@@ -1,5 +1,5 @@
 -- The lines of a ledger, as a gate reads them.
-use Rattle.std.specs.Prelude.{ℕ, false}
+use Rattle.std.specs.Prelude.{false}
 use Rattle.gate_rule.specs.History.{Kind}
 use Rattle.gate_rule.specs.History.Kind.{Call, Notice, Ack}
 use Rattle.gate_ledger.specs.declared.ledger.Line.{Line}

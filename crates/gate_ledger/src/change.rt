@@ -44,6 +44,7 @@ pub fn notify<D: Decider, R: Wait>(
     requires idle { admin.old.view.ticket ≡ Without }
     requires most { most ≡ gate.now.fixed.most }
     ensures ok { IfOk result (λ number. (number ≡ admin.old.view.desk.newest + 1) × (admin.new.view.desk.newest ≡ number) × (admin.new.view.desk.version ≡ ver)) }
+    ensures seats { (admin.new.view.desk.made ≡ admin.old.view.desk.made) × (admin.new.view.desk.ended ≡ admin.old.view.desk.ended) }
     ensures idle { admin.new.view.ticket ≡ Without }
     ensures gate { IsOfGate gate.now admin.new }
 {
@@ -83,6 +84,7 @@ pub fn acknowledge<D: Decider, R: Wait>(
     requires gate { IsOfGate gate.now admin.old }
     requires idle { admin.old.view.ticket ≡ Without }
     ensures answer { IfOk result (λ answer. HasAnswered answer admin.old.view admin.new.view) }
+    ensures seats { (admin.new.view.desk.made ≡ admin.old.view.desk.made) × (admin.new.view.desk.ended ≡ admin.old.view.desk.ended) }
     ensures idle { admin.new.view.ticket ≡ Without }
     ensures gate { IsOfGate gate.now admin.new }
 {

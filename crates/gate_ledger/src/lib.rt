@@ -9,3 +9,6 @@ mod station;
 pub use change::{Acknowledged, NotifyFault, acknowledge, notify};
 pub use ledger::{Ledger, Line};
 pub use station::call;
+
+#[cfg(test)]
+mod tests;

@@ -1,4 +1,4 @@
-use Rattle.std.proofs.Common.{◌≡◌, ◌+◌, ◌∙◌, [], ◌∷◌, Some, None, sym, refl, ap, ⊎_elim, arith}
+use Rattle.std.proofs.Common.{◌∙◌, Some, None, sym, refl, ap, ⊎_elim, arith}
 use Rattle.gate_ledger.specs.declared.ledger.Line.TheVariants.{Settled}
 use Rattle.gate_ledger.specs.Lines.{kind_of}
 use Rattle.gate_ledger.proofs.Growing as growing

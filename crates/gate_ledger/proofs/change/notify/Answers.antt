@@ -1,4 +1,4 @@
-use Rattle.std.proofs.Common.{◌≡◌, ◌<◌, ◌∙◌, arith, ap, subst}
+use Rattle.std.proofs.Common.{◌∙◌, arith, ap}
 use Rattle.gate_ledger.specs.Lines.{kind_of}
 use Rattle.gate_ledger.proofs.Growing as growing
 use Rattle.gate_ledger.proofs.change.notify.Goals as goal
