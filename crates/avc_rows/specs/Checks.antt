@@ -25,6 +25,7 @@ IsShown key v w vector Asked =
 abbrev pub as_asked : Key → AskedKey
 as_asked key = record { source = key.source; target = key.target; class = key.class }
 
+-- what is the same as the same is the same
 pub IsSame-transitive : {E D O : Type 0} (a b c : Shown E D O) → IsSame a b → IsSame b c → IsSame a c
 IsSame-transitive {E} {D} {O} a b c ab bc =
     (bc.0 ∙ ab.0, bc.1 ∙ ap (λ (v : View E D O). record v { trace = c.view.trace; served = c.view.served }) ab.1)

@@ -75,6 +75,7 @@ impl<'d, V: Journal<D>, D: Decider> Gate<'d, V, D> {
         requires pending { settled_in V.means.kind admin.old.view.seen ≢ admin.old.view.desk.newest }
         ensures counted { admin.new.view ≡ Views.counted admin.old.view admin.new.view.trace.last.found }
         ensures older { result + admin.new.view.trace.last.found ≡ admin.old.view.desk.counted }
+        ensures clear { result ≡ 0 → admin.new.view.desk.clear ≡ admin.old.view.desk.newest }
         ensures few { result + length admin.old.view.desk.ended ≤ admin.old.view.desk.made }
         ensures rule { Told.Stood V.means D.decides self.now.fixed admin.old.view (Views.leave_word (admin.old.view.desk.newest + 1)) admin.new.view.trace.last.found }
         ensures gate { IsOfGate self.now admin.new }

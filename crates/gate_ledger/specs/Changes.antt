@@ -7,6 +7,7 @@ use Rattle.gate_ledger.specs.declared.ledger.Line.TheVariants.{Settled}
 use Rattle.gate_ledger.specs.declared.change.Acknowledged.{Acknowledged}
 use Rattle.gate_ledger.specs.declared.change.Acknowledged.TheVariants.{Done, Busy, Idle}
 
+-- the item of a turn over ledgers, which have no stale slots
 abbrev pub turn_of : Option Line → Option ℕ → Item Line
 turn_of entry looked = record { entry = entry; looked = looked; found = 0; left = 0 }
 

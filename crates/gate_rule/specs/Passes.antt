@@ -13,9 +13,11 @@ abbrev pub at_parity : ℕ → Pass → ℕ
 at_parity p Out = 0
 at_parity p (Inside number version) = cond (number % 2 == p) 1 0
 
+-- 1 for a seat whose pass has a number of this parity
 abbrev pub inside_at : ℕ → Rights → ℕ
 inside_at p r = at_parity p r.pass
 
+-- how often the seat may enter yet
 abbrev pub quota_of : Rights → ℕ
 quota_of r = r.quota
 
@@ -30,7 +32,10 @@ FitsPass newest settled forced clear version Out = Unit {0}
 FitsPass newest settled forced clear version (Inside n v) =
     ((n ≡ settled) ⊎ ((n ≡ newest) ⊎ (n < forced))) × (n ≤ newest) × (v ≡ version n) × (n < clear → n < forced)
 
--- entry budget, passes counted by parity, pass numbers, clearance
+-- the gate word shows the newest number, its version and the passes entered.
+-- Entry budget: the passes entered, the quotas left and the quotas of the seats not yet made are at most 2^35.
+-- Passes counted: those of the parity of the newest number are the ones entered under it less the ones left, and those of the other parity the ones counted less the ones left.
+-- Pass numbers and clearance: as each pass fits
 pub record Passes (rs : List Rights) (newest settled forced counted unmade clear : ℕ) (version : ℕ → ℕ) (gate even odd : ℕ) : Type 0 where
   pub entered : ℕ
   pub gate_is : gate ≡ gate_word newest (version newest) entered

@@ -37,12 +37,15 @@ pub record Truth (E : Type 0) : Type 0 where
   pub version : ℕ → ℕ
 
 module _ {E D O : Type 0} where
+  -- what the seat is
   abbrev pub role_of : View E D O → Role
   role_of v = v.role
 
+  -- the seat's ticket
   abbrev pub ticket_of : View E D O → Ticket
   ticket_of v = v.ticket
 
+  -- the seat's pass and quota
   abbrev pub rights_of : View E D O → Rights
   rights_of v = v.rights
 
@@ -99,6 +102,9 @@ pub record Dated (versions most : ℕ) (said : ℕ → ℕ) (newest : ℕ) (vers
   pub told : (m : ℕ) → m < newest → version m ≡ said m
 
 module _ {V E D O : Type 0} (M : Means V E D O) (decides : D → Decisions) where
+  -- the whole rule: there is a truth with which words, slot and views agree.
+  -- `passes` has the entry budget, the passes counted, the pass numbers and the clearance; `rows` the cached rows; `tickets` and `place` the turn;
+  -- `noticed`, `dated`, `promised` and `place` the value at rest; `each`, `begins`, `promised` and `unmade` the histories seen; `acknowledged` ties the settled and the forced number to the history
   pub record Kept (k : Terms V D) (s : State (Option V) (View E D O)) : Type 0 where
     pub t : Truth E
     pub wide : length s.words ≡ 517

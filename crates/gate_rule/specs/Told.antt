@@ -73,6 +73,7 @@ module _ {V E D O : Type 0} (M : Means V E D O) (decides : D → Decisions) wher
   Stood f v word n =
       (k : Terms V D) × (s : State (Option V) (View E D O)) × (id : ℕ) × Kept M decides k s × (fixed_of M k ≡ f) × (get_elem? s.views id ≡ some v) × (slice_index s.words word ≡ n)
 
+  -- so of whatever the view says that the gate fixes
   abbrev pub Stands : View E D O → ℕ → ℕ → Type 0
   Stands v word n = (f : Fixed D O) → v.fixed ≡ Some f → Stood f v word n
 

@@ -17,13 +17,15 @@ use Rattle.gate_rule.specs.History.{of_caller}
 use Rattle.gate_rule.specs.Meaning.{Means}
 use Rattle.gate_rule.specs.Rows.{shows}
 
--- the fields of a gate word
+-- the policy number in a gate word
 abbrev pub number_in : ℕ → ℕ
 number_in w = (split_gate w).0
 
+-- the version in a gate word
 abbrev pub version_in : ℕ → ℕ
 version_in w = (split_gate w).1
 
+-- the passes entered in a gate word
 abbrev pub passes_in : ℕ → ℕ
 passes_in w = (split_gate w).2
 
@@ -35,6 +37,7 @@ one_more n = (n + 1) % 18446744073709551616
 abbrev pub leave_word : ℕ → ℕ
 leave_word number = 1 + number % 2
 
+-- a step on a word, with what it found and what it left
 abbrev pub done : ℕ → ℕ → ℕ → StepDone
 done word found left = record { word = word; found = found; left = left }
 
@@ -42,14 +45,16 @@ done word found left = record { word = word; found = found; left = left }
 abbrev pub traced : Trace → StepDone → Trace
 traced t d = record { steps = t.steps + 1; last = d; earlier = t.last }
 
+-- no step yet
 abbrev pub untraced : Trace
 untraced = record { steps = 0; last = done 0 0 0; earlier = done 0 0 0 }
 
--- number and version of a pass, or 0
+-- the number of a pass, or 0
 abbrev pub number_of : Pass → ℕ
 number_of Out = 0
 number_of (Inside number version) = number
 
+-- the version of a pass, or 0
 abbrev pub pass_version : Pass → ℕ
 pass_version Out = 0
 pass_version (Inside number version) = version
@@ -60,6 +65,7 @@ caller_of Spent = 0
 caller_of (Caller n) = n
 caller_of Admin = 0
 
+-- 1 for a caller
 abbrev pub is_caller : Role → ℕ
 is_caller Spent = 0
 is_caller (Caller n) = 1
@@ -93,6 +99,7 @@ entries_of [] = []
 entries_of (i ∷ is) = with_entry i.entry (entries_of is)
 
 module _ {E : Type 0} where
+  -- a desk on which nothing was done
   abbrev pub blank_desk : Desk E
   blank_desk = record { made = 0; ended = []; newest = 0; version = 0; counted = 0; clear = 0; looked = None; found = 0; left = 0; turns = [] }
 

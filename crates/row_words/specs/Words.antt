@@ -27,13 +27,15 @@ IsRow number s t v = (number < 1048576) × (0 < s) × (s < 4096) × (0 < t) × (
 abbrev pub row_word : ℕ → ℕ → ℕ → Class → ℕ → ℕ
 row_word number s t c v = number * 17592186044416 + s * 4294967296 + t * 1048576 + code_of c * 65536 + v
 
--- the source, target and class code fields of a word
+-- the source field of a word
 abbrev pub source_field : ℕ → ℕ
 source_field w = w / 4294967296 % 4096
 
+-- its target field
 abbrev pub target_field : ℕ → ℕ
 target_field w = w / 1048576 % 4096
 
+-- its class code field
 abbrev pub class_field : ℕ → ℕ
 class_field w = w / 65536 % 16
 
