@@ -1,2 +1,4 @@
 pub mod Places
 pub mod Members
+pub mod MappedLemmas
+pub mod StaleLemmas

@@ -4,3 +4,6 @@ pub mod Vectors
 pub mod Decisions
 pub mod Asking
 pub mod Phases
+pub mod Mapped
+pub mod Stale
+pub mod NoSlots

@@ -1,5 +1,5 @@
 -- Cutting a list at the first element that passes a test.
-use Rattle.std.proofs.Common.{◌≡◌, ◌<◌, ◌≤◌, ◌+◌, ℕ, Bool, true, false, cond, ltb, List, ◌∷◌, [], length, take, drop, refl, sym, ◌∙◌, arith, Option, Some, None}
+use Rattle.std.proofs.Common.{◌≡◌, ◌<◌, ◌+◌, ℕ, Bool, true, false, cond, ltb, List, ◌∷◌, [], length, take, drop, refl, sym, ◌∙◌, arith, Some, None}
 use Rattle.std.specs.List.{position, position_from, position_or_len, slice_split, onto_first}
 use Rattle.std.proofs.lemmas.List.Splits.{slice_split_first}
 use Rattle.std.proofs.lemmas.Iterator.Adapters.{position_from-zero}

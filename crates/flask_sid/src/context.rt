@@ -5,7 +5,7 @@ use crate::{Memory, Name, Word, cut};
 use std::alloc::Global;
 
 /// The three names of a context: kept ones, or words of a text.
-#[derive(Debug, Drop)]
+#[derive(Debug, Drop, PartialEq, Eq, Hash)]
 pub struct ContextOf<N> {
     pub user: N,
     pub role: N,

@@ -11,6 +11,7 @@ mod name;
 mod piece;
 mod rows;
 mod sid;
+mod sid_table;
 mod word;
 
 pub use context::{Context, ContextFault, ContextOf, context_form, kept};
@@ -19,4 +20,8 @@ pub use name::Name;
 pub use piece::Piece;
 pub use rows::Rows;
 pub use sid::Sid;
+pub use sid_table::{InternFault, MOST_CONTEXTS, SidTable};
 pub use word::{Word, cut};
+
+#[cfg(test)]
+mod tests;

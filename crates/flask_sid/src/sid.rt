@@ -1,4 +1,4 @@
-ghost use Rattle.std.specs.Prelude.{◌≡◌, ◌<◌, ◌≤◌, SomeIff};
+ghost use Rattle.std.specs.Prelude.{◌≡◌, ◌+◌, ◌-◌, ◌<◌, ◌≤◌, SomeIff};
 
 use std::marker::Model;
 
@@ -39,5 +39,23 @@ impl Sid {
         ensures within { result < 4096 }
     {
         self.number
+    }
+
+    // The identifier whose place in the order of numbers, counted from 0, is this.
+    pub(crate) fn at_place(place: usize) -> Sid
+        requires { place < 4095 }
+        ensures { result ≡ place + 1 }
+    {
+        Sid {
+            number: place as u16 + 1,
+        }
+    }
+
+    // The place of the identifier in the order of numbers, counted from 0.
+    pub(crate) fn place(self) -> usize
+        ensures value { result ≡ self - 1 }
+        ensures positive { 0 < self }
+    {
+        usize::from(self.number - 1)
     }
 }

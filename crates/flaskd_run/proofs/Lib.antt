@@ -1,1 +1,5 @@
+pub mod NamedLemmas
+pub mod PhaseLemmas
+pub mod SerialLemmas
+pub mod TopLemmas
 pub mod WritingLemmas

@@ -1,4 +1,4 @@
-ghost use Rattle.std.specs.Prelude.{◌≡◌, [], ◌∷◌, MatchOption};
+ghost use Rattle.std.specs.Prelude.{◌≡◌, ◌≤◌, [], ◌∷◌, MatchOption, OnOk};
 ghost use Rattle.std.specs.List.{list_all};
 ghost use Rattle.text_lines.specs.Lines;
 
@@ -27,7 +27,8 @@ pub fn first_line(bytes: &[u8]) -> Option<(&[u8], &[u8])>
 /// number past the limit, and else `Syntax` exactly for a byte that may not stand.
 #[tactic(auto, unfolding(crate::specs::Lines::line_words))]
 pub fn line_words<'a>(number: u32, line: &'a [u8]) -> Result<Words<'a>, FaultKind>
-    ensures { result ≡ Lines.line_words number line.now }
+    ensures said { result ≡ Lines.line_words number line.now }
+    ensures counted { OnOk result (number ≤ 100000) }
 {
     if number > LINE_LIMIT {
         return Err(FaultKind::Limit);

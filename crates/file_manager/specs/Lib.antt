@@ -1,0 +1,5 @@
+pub mod Paths
+pub mod Plain
+pub mod Cores
+pub mod Serving
+pub mod Honest

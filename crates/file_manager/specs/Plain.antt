@@ -1,0 +1,167 @@
+-- The plain file manager: finite maps, no cache, and a slot that gives nothing by itself.
+use Rattle.std.specs.Prelude.{ℕ, ◌+◌, ◌*◌, ◌<◌, ◌≤◌, ◌≡◌, Bool, true, false, IsTrue, not, List, [], ◌∷◌, ◌++◌, length, take, drop, slice_get, slice_set, slice_index, replicate, All, Option, Some, None, if◌then◌else◌}
+use Rattle.std.specs.List.{find}
+use Rattle.access_vectors.specs.Table.{Permission}
+use Rattle.access_vectors.specs.Perms.{file_read, file_write, file_append, dir_search}
+use Rattle.access_vectors.specs.Vectors.{has}
+use Rattle.access_vectors.specs.Decisions.{Decisions}
+use Rattle.access_vectors.specs.Asking.{question}
+use Rattle.access_vectors.specs.declared.asked.Asked.{Asked}
+use Rattle.manager_history.specs.Answers.{Answer, Denial}
+use Rattle.file_manager.specs.Paths.{same_path}
+use Rattle.file_manager.specs.declared.opening.Node.{Node}
+use Rattle.file_manager.specs.declared.opening.FileOpening.{FileOpening}
+use Rattle.file_manager.specs.declared.call.FileCall.{FileCall}
+use Rattle.file_manager.specs.declared.call.FileCall.TheVariants.{OpenFile, ReadFile}
+use Rattle.file_manager.specs.declared.call.FileReply.{FileReply}
+use Rattle.file_manager.specs.declared.call.FileReply.TheVariants.{Done, Bytes, Denied, NotFound, IsDir, BadSlot, SlotUsed, BadMode}
+
+-- a slot in use: the path that was opened, and the mode
+pub record Held : Type 0 where
+  pub path : List (List ℕ)
+  pub mode : ℕ
+
+-- the manager's state: what it was opened with, and the slots by client and number, 64 for each client
+pub record FileState : Type 0 where
+  pub opening : FileOpening
+  pub slots : List (Option Held)
+
+-- the reply to a call, the state that it leaves, and the questions that it asked, up to the first no
+abbrev pub FileAnswer : Type 0
+FileAnswer = Answer FileReply FileState
+
+-- where a client's slot stands
+abbrev pub place : ℕ → ℕ → ℕ
+place client slot = 64 * client + slot
+
+-- what a place holds, if anything
+abbrev pub at_place : List (Option Held) → ℕ → Option Held
+at_place slots at = found (slice_get slots at)
+  where
+    found : Option (Option Held) → Option Held
+    found None = None
+    found (Some held) = held
+
+-- the node of a path
+abbrev pub node_of : List Node → List (List ℕ) → Option Node
+node_of nodes path = find (λ node. same_path node.path path) nodes
+
+-- the bytes of a path's file, and none where it has no file
+abbrev pub bytes_of : List Node → List (List ℕ) → List ℕ
+bytes_of nodes path = bytes_in (node_of nodes path)
+  where
+    bytes_kept : Option (List ℕ) → List ℕ
+    bytes_kept None = []
+    bytes_kept (Some bytes) = bytes
+
+    bytes_in : Option Node → List ℕ
+    bytes_in None = []
+    bytes_in (Some node) = bytes_kept node.bytes
+
+-- a caller's identifier
+abbrev pub sid_of : FileState → ℕ → ℕ
+sid_of state caller = slice_index state.opening.clients caller
+
+-- a reply that changes nothing and asks nothing
+abbrev pub saying : FileState → FileReply → FileAnswer
+saying state reply = record { reply = reply; state = state; asked = [] }
+
+-- asks a question first: where it is denied that is the reply, and nothing else is done
+abbrev pub asking : FileState → ℕ → Asked → FileAnswer → FileAnswer
+asking state number asked rest =
+    if asked.yes then record { reply = rest.reply; state = rest.state; asked = asked ∷ rest.asked }
+    else record { reply = Denied asked.perm number; state = state; asked = asked ∷ [] }
+
+-- what comes of asking the permissions of a mode: the first that is denied, and the questions up to it
+pub record Asking : Type 0 where
+  pub denied : Option Permission
+  pub asked : List Asked
+
+-- a question is asked, and the rest where it is allowed
+abbrev pub then_asking : Asked → Asking → Asking
+then_asking asked rest =
+    if asked.yes then record { denied = rest.denied; asked = asked ∷ rest.asked } else record { denied = Some asked.perm; asked = asked ∷ [] }
+
+-- of these permissions those that the mode has are asked, in their order
+abbrev pub asking_mode : Decisions → ℕ → ℕ → ℕ → ℕ → List Permission → Asking
+asking_mode d version s t mode [] = record { denied = None; asked = [] }
+asking_mode d version s t mode (perm ∷ perms) =
+    if has mode perm.index then then_asking (question d version s t perm) (asking_mode d version s t mode perms)
+    else asking_mode d version s t mode perms
+
+-- the permissions of a file's mode, in the order in which they are asked
+abbrev pub mode_perms : List Permission
+mode_perms = file_read ∷ file_write ∷ file_append ∷ []
+
+-- a denial after these questions, or else the rest
+abbrev pub denied_or : FileState → ℕ → List Asked → FileAnswer → Option Permission → FileAnswer
+denied_or state number asked rest (Some perm) = record { reply = Denied perm number; state = state; asked = asked }
+denied_or state number asked rest None = record { reply = rest.reply; state = rest.state; asked = asked ++ rest.asked }
+
+-- what is done where no permission of the mode was denied
+abbrev pub after_asking : FileState → ℕ → Asking → FileAnswer → FileAnswer
+after_asking state number asking rest = denied_or state number asking.asked rest asking.denied
+
+-- the slot at a place is filled
+abbrev pub filled : FileState → ℕ → List (List ℕ) → ℕ → FileAnswer
+filled state at path mode =
+    record {
+      reply = Done;
+      state = record { opening = state.opening; slots = slice_set state.slots at (Some (record { path = path; mode = mode })) };
+      asked = [];
+    }
+
+-- opening what a found node has: for a file each permission of the mode is asked, in the order read, write, append
+abbrev pub opened_file : Decisions → FileState → ℕ → ℕ → ℕ → ℕ → List (List ℕ) → ℕ → ℕ → Option (List ℕ) → FileAnswer
+opened_file d state s number version at path mode label None = saying state IsDir
+opened_file d state s number version at path mode label (Some bytes) =
+    after_asking state number (asking_mode d version s label mode mode_perms) (filled state at path mode)
+
+-- opening what the look-up found
+abbrev pub opened : Decisions → FileState → ℕ → ℕ → ℕ → ℕ → List (List ℕ) → ℕ → Option Node → FileAnswer
+opened d state s number version at path mode None = saying state NotFound
+opened d state s number version at path mode (Some node) = opened_file d state s number version at path mode node.sid node.bytes
+
+-- opening into what a place holds: it has to be free, and then the root is searched for the path's one name
+abbrev pub open_into : Decisions → FileState → ℕ → ℕ → ℕ → ℕ → List (List ℕ) → ℕ → Option Held → FileAnswer
+open_into d state s number version at path mode (Some held) = saying state SlotUsed
+open_into d state s number version at path mode None =
+    asking state number (question d version s state.opening.root dir_search)
+    (opened d state s number version at path mode (node_of state.opening.nodes path))
+
+-- open: SlotUsed; the root is searched; NotFound; IsDir; each permission of the mode
+abbrev pub open_row : Decisions → FileState → ℕ → ℕ → ℕ → ℕ → List (List ℕ) → ℕ → FileAnswer
+open_row d state s number version at path mode = open_into d state s number version at path mode (at_place state.slots at)
+
+-- read: BadSlot; BadMode where the mode lacks read; then the bytes from the offset on, at most so many of them
+abbrev pub read_row : FileState → Option Held → ℕ → ℕ → FileAnswer
+read_row state None offset most = saying state BadSlot
+read_row state (Some held) offset most =
+    if has held.mode file_read.index then saying state (Bytes (take most (drop offset (bytes_of state.opening.nodes held.path))))
+    else saying state BadMode
+
+-- the plain manager's answer to a caller's call under a policy number and its version
+abbrev pub answer : Decisions → FileState → ℕ → FileCall → ℕ → ℕ → FileAnswer
+answer d state caller (OpenFile slot path mode) number version =
+    open_row d state (sid_of state caller) number version (place caller slot) path mode
+answer d state caller (ReadFile slot offset most) number version =
+    read_row state (at_place state.slots (place caller slot)) offset most
+
+-- the state that an opening gives: every slot is free
+abbrev pub opened_with : FileOpening → FileState
+opened_with opening = record { opening = opening; slots = replicate (64 * length opening.clients) None }
+
+-- a call as a session may give it: its caller is a client, and its slot is below 64
+abbrev pub IsFormed : FileState → ℕ → FileCall → Type 0
+IsFormed state caller (OpenFile slot path mode) = (caller < length state.opening.clients) × (slot < 64)
+IsFormed state caller (ReadFile slot offset most) = (caller < length state.opening.clients) × (slot < 64)
+
+-- every identifier of an opening is the decider's
+abbrev pub IsOpening : Decisions → FileOpening → Type 0
+IsOpening d opening =
+    All (λ sid. IsTrue (d.known sid)) opening.clients × IsTrue (d.known opening.root) × All (λ node. IsTrue (d.known node.sid)) opening.nodes
+
+-- the denial that a reply is, if it is one
+abbrev pub denial_of : FileReply → Option Denial
+denial_of (Denied perm number) = Some (record { perm = perm; policy = number })
+denial_of reply = None

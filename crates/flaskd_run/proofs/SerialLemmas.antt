@@ -1,0 +1,104 @@
+-- Running the lines one after another.
+use Rattle.std.proofs.Common.{◌≡◌, ◌<◌, ◌≤◌, ◌+◌, ℕ, zero, suc, Bool, true, false, List, [], ◌∷◌, ◌++◌, length, All, Option, Some, None, Result, Ok, Err, refl, sym, ap, ◌∙◌, arith, map, IsTrue, append_assoc}
+use Rattle.std.specs.Prelude.{OnOk, OnErr, nat_lt, nat_le, ◌&&◌}
+use Rattle.std.proofs.lemmas.Bool.Decides.{nat_tests}
+use Rattle.std.proofs.lemmas.List.Elements.{All-map}
+use Rattle.flask_io.specs.Streams.{Adds}
+use Rattle.access_vectors.specs.Decisions.{Decisions}
+use Rattle.manager_history.specs.Kept.{is_done}
+use Rattle.policy_text.specs.declared.policy.PolicyParts.{PolicyParts}
+use Rattle.policy_text.specs.declared.policy.ContextLine.{ContextLine}
+use Rattle.file_manager.specs.Plain.{IsOpening}
+use Rattle.session_text.specs.Sessions.{IsSession, IsSidOf}
+use Rattle.session_text.specs.declared.session.ClientLine.{ClientLine}
+use Rattle.session_text.specs.declared.session.SessionParts.{SessionParts}
+use Rattle.session_text.specs.declared.session.Run.{Run}
+use Rattle.session_text.specs.declared.session.Run.TheVariants as run
+use Rattle.session_text.specs.declared.session.RunLine.{RunLine}
+use Rattle.file_manager.specs.declared.opening.FileOpening.{FileOpening}
+use Rattle.flaskd_run.specs.Desks.{Standing}
+use Rattle.flaskd_run.specs.Serial.{Day, day_after, day_acknowledged, line_text, lines_text, opening_of, morning_of, morning, serial_text, ack_on}
+use Rattle.flaskd_run.specs.Walking.{decisions_of}
+use Rattle.flaskd_run.specs.Writing.{IsOffered, AddsFront}
+use Rattle.flaskd_run.proofs.WritingLemmas.{written_more, front_of_part, adds_more}
+
+-- a line ran and was written
+pub line_written : (policy policy' : PolicyParts) (clients : List ClientLine) (day day' : Day) (line : RunLine) (rest items : List RunLine) (before now later : Option (List ℕ)) (whole out : List ℕ) → IsOffered before now whole (lines_text (decisions_of policy) clients day items) → items ≡ line ∷ rest → policy' ≡ policy → out ≡ line_text (decisions_of policy') clients day line.line line.run → day' ≡ day_after (decisions_of policy') day line.run → Adds now later out → IsOffered before later whole (lines_text (decisions_of policy) clients day' rest)
+line_written policy policy' clients day day' line rest items before now later whole out offered items_is same text day_is added =
+    let here = rw items_is at offered in
+    rw (day_is, same) (written_more before now later whole (line_text (decisions_of policy) clients day line.line line.run) _ here (rw (text, same) at added))
+
+-- a line ran, and a front of it was written
+pub line_failed : (policy policy' : PolicyParts) (clients : List ClientLine) (day : Day) (line : RunLine) (rest items : List RunLine) (before now later : Option (List ℕ)) (whole out : List ℕ) → IsOffered before now whole (lines_text (decisions_of policy) clients day items) → items ≡ line ∷ rest → policy' ≡ policy → out ≡ line_text (decisions_of policy') clients day line.line line.run → AddsFront now later out → AddsFront before later whole
+line_failed policy policy' clients day line rest items before now later whole out offered items_is same text added =
+    let here = rw items_is at offered in
+    front_of_part before now later whole (line_text (decisions_of policy) clients day line.line line.run) _ here (rw (text, same) at added)
+
+-- an outcome of which one fact gives another
+pub on_ok : {T E : Type 0} (result : Result T E) (P Q : Type 0) → (P → Q) → OnOk result P → OnOk result Q
+on_ok (Ok x) P Q f h = f h
+on_ok (Err e) P Q f h = h
+
+pub on_err : {T E : Type 0} (result : Result T E) (P Q : Type 0) → (P → Q) → OnErr result P → OnErr result Q
+on_err (Ok x) P Q f h = h
+on_err (Err e) P Q f h = f h
+
+pub on_err_always : {T E : Type 0} (result : Result T E) (P : Type 0) → P → OnErr result P
+on_err_always (Ok x) P h = tt
+on_err_always (Err e) P h = h
+
+-- what holds of each line holds of the lines behind the first
+pub all_behind : {X : Type 0} (P : X → Type 0) (items rest : List X) (x : X) → items ≡ x ∷ rest → All P items → All P rest
+all_behind P items rest x is all = λ k d within. (rw is at all) (suc k) d (omega arith)
+
+-- a list of no length
+pub no_items : {X : Type 0} (xs : List X) → length xs ≡ 0 → xs ≡ []
+no_items [] none = refl
+no_items (x ∷ xs) none = absurd (omega arith)
+
+-- a line counts at most one call
+pub calls_after : (d : Decisions) (day : Day) (asks : Run) → (day_after d day asks).calls ≤ day.calls + 1
+calls_after d day (run.File client call) = omega arith
+calls_after d day (run.Begin client) = omega arith
+calls_after d day (run.End client) = omega arith
+calls_after d day (run.Notify version) = omega arith
+calls_after d day run.Ack =
+    elim (is_done (ack_on day)) as (λ (b : Bool). (day_acknowledged day b).calls ≤ day.calls + 1) [ true ↦ omega arith | false ↦ omega arith ]
+
+-- a line completes at most one change
+pub changes_after : (d : Decisions) (day : Day) (asks : Run) → (day_after d day asks).changes ≤ day.changes + 1
+changes_after d day (run.File client call) = omega arith
+changes_after d day (run.Begin client) = omega arith
+changes_after d day (run.End client) = omega arith
+changes_after d day (run.Notify version) = omega arith
+changes_after d day run.Ack =
+    elim (is_done (ack_on day)) as (λ (b : Bool). (day_acknowledged day b).changes ≤ day.changes + 1) [ true ↦ omega arith | false ↦ omega arith ]
+
+-- the identifiers of a session are its policy's
+sid_known : (contexts : List ContextLine) (sid : ℕ) → IsSidOf contexts sid → IsTrue (nat_lt 0 sid && nat_le sid (length contexts))
+sid_known contexts sid is = grind (arith, nat_tests)
+
+pub opening_known : (session : SessionParts) → IsSession session → 0 < length session.policy.contexts → IsOpening (decisions_of session.policy) (opening_of session)
+unfolding decisions_of
+opening_known session is some =
+    (All-map (λ sid. IsTrue (nat_lt 0 sid && nat_le sid (length session.policy.contexts))) (λ (client : ClientLine). client.sid) session.clients (λ k d within. sid_known session.policy.contexts _ (is.clients k d within)),
+      sid_known session.policy.contexts 1 (omega arith, omega arith),
+      λ k d within. sid_known session.policy.contexts _ (is.nodes k d within))
+
+-- a line was written whole, with which all is
+pub all_written : (before now later : Option (List ℕ)) (whole part : List ℕ) → IsOffered before now whole part → Adds now later part → Adds before later whole
+all_written before now later whole part offered added = rw offered.1 (adds_more before now later offered.0 part offered.2 added)
+
+-- of the last line a front was written
+pub last_failed : (before now later : Option (List ℕ)) (whole part : List ℕ) → IsOffered before now whole part → AddsFront now later part → AddsFront before later whole
+last_failed before now later whole part offered added =
+    (offered.0 ++ added.0, added.1,
+      offered.1 ∙ ap (λ p. offered.0 ++ p) added.2 ∙ sym (append_assoc offered.0 added.0 added.1),
+      adds_more before now later offered.0 added.0 offered.2 added.3)
+
+-- what the lines print from a desk that was set up with a session's opening and policy
+pub run_text : (session parts : SessionParts) (opening : FileOpening) (policy : PolicyParts) (desk : Standing) (clients : List ClientLine) (items : List RunLine) → parts ≡ session → opening ≡ opening_of parts → policy ≡ parts.policy → desk ≡ record { day = morning_of opening; policy = policy } → clients ≡ parts.clients → items ≡ parts.lines → lines_text (decisions_of desk.policy) clients desk.day items ≡ serial_text session
+unfolding serial_text
+run_text session parts opening policy desk clients items parts_is opening_is policy_is desk_is clients_is items_is =
+    rw (desk_is, clients_is, items_is, opening_is, policy_is)
+      (ap (λ (s : SessionParts). lines_text (decisions_of s.policy) s.clients (morning s) s.lines) parts_is)

@@ -1,0 +1,288 @@
+ghost use Rattle.std.specs.Prelude.{◌≡◌, ◌+◌, ◌<◌, ◌≤◌, [], ◌∷◌, ◌++◌, vec_len, vec_capacity};
+
+use crate::answers::{Ack, NotifyFault, Receipt};
+use crate::core_trait::Core;
+use crate::entry::{Entry, History};
+use access_vectors::{Asker, Decider, Phase, Questions, Steps};
+use flask_sid::Memory;
+use std::alloc::Global;
+use std::marker::Model;
+use std::sync::ledger::Ledger;
+
+/// Adds an entry, for which there is room.
+fn add<K: Drop, R: Drop>(entries: &mut Vec<Entry<K, R>>, entry: Entry<K, R>)
+    requires { vec_len entries.old < vec_capacity entries.old }
+    ensures added { entries.new.items ≡ entries.old.items ++ entry ∷ [] }
+    ensures len { vec_len entries.new ≡ vec_len entries.old + 1 }
+    ensures room { vec_capacity entries.old ≤ vec_capacity entries.new }
+{
+    let _ = entries.push(entry);
+}
+
+/// A core with its history. Contracts see the core, the decider, the manager's number, the phase and the history,
+/// oldest entry first. The type keeps that the history is lawful from the core's opening under the decider, that the
+/// core's state and the phase are the replay of it, and that while a change is pending the place of its
+/// acknowledgement is spare.
+#[derive(Drop)]
+pub struct Keeper<'d, C: Core, D: Decider> {
+    core: C,
+    decider: &'d D,
+    manager: u8,
+    phase: Phase,
+    entries: Vec<Entry<C::Call, C::Reply>>,
+}
+
+impl<'d, C: Core, D: Decider> Model for Keeper<'d, C, D> {
+    ghost use Rattle.std.specs.Prelude.{◌≡◌, vec_capacity};
+    ghost use Rattle.manager_history.specs.Kept.{Kept, IsKept};
+
+    ghost Value = { Kept C D C.Call C.Reply };
+
+    ghost view = { λ keeper. record {
+      core = keeper.core;
+      decider = keeper.decider.now;
+      manager = keeper.manager;
+      phase = keeper.phase;
+      history = keeper.entries.items;
+    } };
+
+    ghost invariant = { λ keeper. IsKept (D.decides keeper.decider.now) C.plain C.formed (C.opening keeper.core) (C.state keeper.core)
+        keeper.phase keeper.entries.items (vec_capacity keeper.entries)
+        × C.fits (D.decides keeper.decider.now) keeper.core
+        × (C.phase keeper.core ≡ keeper.phase) };
+}
+
+impl<'d, C: Core, D: Decider> Keeper<'d, C, D> {
+    ghost use Rattle.std.specs.Prelude.{◌≡◌, ◌+◌, ◌≤◌, ◌⊎◌, true, false, min, [], ◌∷◌, ◌++◌, length, take, drop};
+    ghost use Rattle.std.specs.Prelude.{None, is_some, IsTrue, IfOk, IfErr, OnOk, OnErr, if◌then◌else◌};
+    ghost use Rattle.access_vectors.specs.Asking.{with_keys_of};
+    ghost use Rattle.access_vectors.specs.Phases.{number_of, version_at, MayName, noticed, is_pending, acknowledged};
+    ghost use Rattle.manager_history.specs.Histories.{moment, answer_at, start_of, replay, IsLawful};
+    ghost use Rattle.manager_history.specs.Laws.{RevocationHolds, DenialsAreJust};
+    ghost use Rattle.access_vectors.specs.Stale.{AreNamed, stale_slots, now_following, all_following, is_use_following};
+    ghost use Rattle.manager_history.specs.Kept.{notice_fault, IsRefusal, ack_answer, is_done};
+
+    /// A core with an empty history, settled at number 0 with version 0. It takes no memory.
+    pub fn new(alloc: Global, core: C, manager: u8, decider: &'d D) -> Keeper<'d, C, D>
+        requires fits { C.fits (D.decides decider.now) core }
+        requires opening { C.state core ≡ C.opening core }
+        requires settled { C.phase core ≡ Phase.Settled 0 0 }
+        ensures { result ≡ record {
+          core = core;
+          decider = decider.now;
+          manager = manager;
+          phase = Phase.Settled 0 0;
+          history = [];
+        } }
+    {
+        Keeper {
+            core,
+            decider,
+            manager,
+            phase: Phase::Settled {
+                number: 0,
+                version: 0,
+            },
+            entries: Vec::new(alloc),
+        }
+    }
+
+    /// Does a caller's call under a policy number, and adds it to the history as one operation. `mark` is the caller's
+    /// own number of the call. After `Memory` history and state are as before.
+    pub fn call<A: Asker>(
+        &mut self,
+        alloc: Global,
+        caller: u8,
+        mark: u32,
+        call: C::Call,
+        number: u32,
+        asker: &mut A,
+    ) -> Result<C::Reply, Memory>
+        requires decides { A.decides asker.old ≡ D.decides self.old.decider }
+        requires formed { C.formed (D.decides self.old.decider) (C.state self.old.core) caller call }
+        requires named { MayName self.old.phase number }
+        requires version { A.version asker.old ≡ version_at self.old.phase number }
+        ensures reply { let at = moment (C.state self.old.core) self.old.phase in
+            IfOk result (λ reply. reply ≡ (answer_at C.plain (D.decides self.old.decider) at caller call number).reply) }
+        ensures added { let at = moment (C.state self.old.core) self.old.phase in
+            let asked = (answer_at C.plain (D.decides self.old.decider) at caller call number).asked in
+            IfOk result (λ reply. self.new.history ≡ self.old.history ++ Entry.Op caller mark call number asked reply ∷ []) }
+        ensures state { let at = moment (C.state self.old.core) self.old.phase in
+            OnOk result (C.state self.new.core ≡ (answer_at C.plain (D.decides self.old.decider) at caller call number).state) }
+        ensures follows { IfOk result (λ reply. C.follows self.new.core
+            ≡ C.followed (C.state self.old.core) caller call number reply (C.follows self.old.core)) }
+        ensures asks_nothing { IfOk result (λ reply. is_some (C.denial_of reply) ≡ false
+            → is_use_following (C.use_of caller call) (C.follows self.old.core) number ≡ true
+            → A.asks asker.new ≡ A.asks asker.old) }
+        ensures keys { let at = moment (C.state self.old.core) self.old.phase in
+            let asked = (answer_at C.plain (D.decides self.old.decider) at caller call number).asked in
+            OnOk result (A.keys asker.new ≡ (if is_use_following (C.use_of caller call) (C.follows self.old.core) number
+            then A.keys asker.old else with_keys_of (A.keys asker.old) asked)) }
+        ensures history_after_memory { OnErr result (self.new.history ≡ self.old.history) }
+        ensures state_after_memory { OnErr result (C.state self.new.core ≡ C.state self.old.core) }
+        ensures follows_after_memory { OnErr result (C.follows self.new.core ≡ C.follows self.old.core) }
+        ensures stale_after_memory { OnErr result (C.stale self.new.core ≡ C.stale self.old.core) }
+        ensures phase { self.new.phase ≡ self.old.phase }
+        ensures decider { self.new.decider ≡ self.old.decider }
+        ensures manager { self.new.manager ≡ self.old.manager }
+        ensures opening { C.opening self.new.core ≡ C.opening self.old.core }
+        ensures same { A.same asker.old asker.new }
+    {
+        self.entries.reserve(2)?;
+        let mut asked = Questions::new(alloc);
+        let (kept, reply) = self
+            .core
+            .call(alloc, caller, &call, number, asker, &mut asked)?;
+        let entry = Entry::Op {
+            caller,
+            mark,
+            call,
+            number,
+            asked,
+            reply: kept,
+        };
+        add(&mut self.entries, entry);
+        Ok(reply)
+    }
+
+    /// Begins a change to a version, under the next policy number, which it answers. `most` is the last policy number
+    /// that may be made. The refusals are tested in this order: a change is pending, the decider has no such version,
+    /// the numbers are spent. After a refusal the keeper is as before.
+    pub fn notify(&mut self, alloc: Global, ver: u8, most: u32) -> Result<u32, NotifyFault>
+        requires { number_of self.old.phase ≤ most }
+        ensures refusals { let versions = (D.decides self.old.decider).versions in
+            IfErr result (IsRefusal (notice_fault self.old.phase versions ver most)) }
+        ensures allowed { let versions = (D.decides self.old.decider).versions in
+            OnOk result (notice_fault self.old.phase versions ver most ≡ None) }
+        ensures number { IfOk result (λ number. number ≡ number_of self.old.phase + 1) }
+        ensures added { IfOk result (λ number. self.new.history ≡ self.old.history ++ Entry.Notice number ver ∷ []) }
+        ensures phase { IfOk result (λ number. self.new.phase ≡ noticed self.old.phase number ver) }
+        ensures as_before { IfErr result (λ fault. (fault ≡ NotifyFault.Memory) ⊎ (self.new ≡ self.old)) }
+        ensures history_after_refusal { OnErr result (self.new.history ≡ self.old.history) }
+        ensures phase_after_refusal { OnErr result (self.new.phase ≡ self.old.phase) }
+        ensures stale_after_refusal { OnErr result (C.stale self.new.core ≡ C.stale self.old.core) }
+        ensures state { C.state self.new.core ≡ C.state self.old.core }
+        ensures follows { C.follows self.new.core ≡ C.follows self.old.core }
+        ensures decider { self.new.decider ≡ self.old.decider }
+        ensures manager { self.new.manager ≡ self.old.manager }
+        ensures opening { C.opening self.new.core ≡ C.opening self.old.core }
+    {
+        let (settled, old) = match self.phase {
+            Phase::Pending { number, .. } => return Err(NotifyFault::Pending(number)),
+            Phase::Settled { number, version } => (number, version),
+        };
+        if u16::from(ver) >= self.decider.versions() {
+            return Err(NotifyFault::NoVersion);
+        }
+        if settled == most {
+            return Err(NotifyFault::Spent);
+        }
+        let number = settled + 1;
+        let Ok(()) = self.entries.reserve(2) else {
+            return Err(NotifyFault::Memory);
+        };
+        let Ok(_found) = self.core.start(alloc, self.decider, number, old, ver) else {
+            return Err(NotifyFault::Memory);
+        };
+        self.phase = Phase::Pending {
+            number,
+            old,
+            new: ver,
+        };
+        let notice = Entry::Notice {
+            number,
+            version: ver,
+        };
+        add(&mut self.entries, notice);
+        Ok(number)
+    }
+
+    /// Lets the first `k` stale slots, or all where they are fewer, follow the pending number, and answers how many are
+    /// left: 0 where nothing is pending. It takes no memory.
+    pub fn update<L: Ledger>(&mut self, k: u64, steps: &mut Steps<L>) -> u64
+        ensures left { result ≡ length (C.stale self.new.core) }
+        ensures stale { C.stale self.new.core ≡ drop k (C.stale self.old.core) }
+        ensures follows { let revised = take k (C.stale self.old.core) in
+            C.follows self.new.core ≡ now_following revised (number_of self.old.phase) (C.follows self.old.core) }
+        ensures idle { is_pending self.old.phase ≡ false → result ≡ 0 }
+        ensures cost { steps.new ≤ steps.old + min k (length (C.stale self.old.core)) }
+        ensures state { C.state self.new.core ≡ C.state self.old.core }
+        ensures history { self.new.history ≡ self.old.history }
+        ensures phase { self.new.phase ≡ self.old.phase }
+        ensures decider { self.new.decider ≡ self.old.decider }
+        ensures manager { self.new.manager ≡ self.old.manager }
+        ensures opening { C.opening self.new.core ≡ C.opening self.old.core }
+    {
+        match self.phase {
+            Phase::Settled { .. } => 0,
+            Phase::Pending { .. } => self.core.revise(self.decider, k, steps),
+        }
+    }
+
+    /// Acknowledges the pending number, where no pass below it is out and no slot is stale. The answers are tested in
+    /// this order: nothing is pending, older passes are out, stale slots are left, done. `older` is how many passes
+    /// below the pending number are out, which the caller knows. It takes no memory.
+    pub fn acknowledge(&mut self, older: u64) -> Ack
+        ensures answer { let left = length (C.stale self.old.core) in
+            result ≡ ack_answer self.old.phase self.old.manager older left }
+        ensures added { IsTrue (is_done result)
+            → self.new.history ≡ self.old.history ++ Entry.Ack (number_of self.old.phase) ∷ [] }
+        ensures settled { IsTrue (is_done result) → self.new.phase ≡ acknowledged self.old.phase }
+        ensures follows { IsTrue (is_done result)
+            → C.follows self.new.core ≡ all_following (number_of self.old.phase) (C.follows self.old.core) }
+        ensures as_before { is_done result ≡ false → self.new ≡ self.old }
+        ensures state { C.state self.new.core ≡ C.state self.old.core }
+        ensures decider { self.new.decider ≡ self.old.decider }
+        ensures manager { self.new.manager ≡ self.old.manager }
+        ensures opening { C.opening self.new.core ≡ C.opening self.old.core }
+    {
+        let Phase::Pending { number, new, .. } = self.phase else {
+            return Ack::Idle;
+        };
+        if older > 0 {
+            return Ack::Busy { older };
+        }
+        let left = self.core.left();
+        if left > 0 {
+            return Ack::Behind { left };
+        }
+        self.core.settle();
+        self.phase = Phase::Settled {
+            number,
+            version: new,
+        };
+        add(&mut self.entries, Entry::Ack { number });
+        Ack::Done(Receipt {
+            manager: self.manager,
+            number,
+        })
+    }
+
+    /// Where the policy change stands.
+    pub fn phase(&self) -> Phase
+        ensures { result ≡ self.now.phase }
+    {
+        self.phase
+    }
+
+    /// The history, oldest entry first. It is lawful from the core's opening, state and phase are the replay of it,
+    /// revocation holds in it, and each denial in it is just. The core's stale slots are those of the definition, and every
+    /// used slot follows a policy number that may be named: the settled one where nothing is pending.
+    pub fn entries(&self) -> History<'_, C>
+        ensures value { result.now ≡ self.now.history }
+        ensures lawful { let start = start_of (C.opening self.now.core) in
+            IsLawful C.plain C.formed (D.decides self.now.decider) start self.now.history }
+        ensures replayed { let start = start_of (C.opening self.now.core) in
+            replay C.plain (D.decides self.now.decider) start self.now.history
+            ≡ moment (C.state self.now.core) self.now.phase }
+        ensures revocation { RevocationHolds (D.decides self.now.decider) (Phase.Settled 0 0) self.now.history }
+        ensures denials { let d = D.decides self.now.decider in
+            DenialsAreJust C.denial_of d (Phase.Settled 0 0) self.now.history }
+        ensures stale { let core = self.now.core in
+            C.stale core ≡ stale_slots (D.decides self.now.decider) C.class self.now.phase
+            (C.pair_of (C.state core)) (C.follows core) }
+        ensures follows { AreNamed self.now.phase (C.follows self.now.core) }
+    {
+        self.entries.as_slice()
+    }
+}

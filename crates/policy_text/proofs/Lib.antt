@@ -1,0 +1,9 @@
+pub mod VersionLemmas
+pub mod ReadingLemmas
+pub mod VectorLemmas
+pub mod DecidingLemmas
+pub mod OnLiterals
+pub mod GrowsLemmas
+pub mod FormLemmas
+pub mod DeclaredLemmas
+pub mod KeptLemmas

@@ -1,0 +1,14 @@
+use Rattle.policy_text.proofs.ReadingLemmas.{at_begin, below_line, fails_at, at_end}
+use Rattle.policy_text.proofs.reader.read.Goals as goal
+
+pub lines-init : goal.lines-init
+lines-init c = rw c.new-reader.ensures (at_begin c.args.bytes.now)
+
+pub lines-preserved : goal.lines-preserved
+lines-preserved c = below_line c.lines.reader c.in-Ok.next _ _ _ _ c.lines.invariant c.in-Some.ensures c.in-Ok.ensures
+
+pub returns-in-Err : goal.returns-in-Err
+returns-in-Err c = fails_at c.lines.reader _ _ _ _ c.in-Err.fault c.lines.invariant c.in-Some.ensures c.in-Err.ensures
+
+pub returns : goal.returns
+returns c = rw (at_end c.lines.reader _ _ c.lines.invariant c.in_default.ensures) c.finish.ensures

@@ -1,0 +1,165 @@
+ghost use Rattle.std.specs.Prelude.{◌≡◌, IfOk};
+ghost use Rattle.text_lines.specs.ResultSteps.{found_or};
+ghost use Rattle.text_lines.specs.Refusals.{Gives};
+ghost use Rattle.text_lines.specs.declared.fault.FaultKind.TheVariants.{Unknown};
+ghost use Rattle.policy_text.specs.Known;
+
+use crate::form::{Decision, LabelForm, Labelling, PatternForm};
+use crate::policy::{Pattern, PolicyParts, RuleLine, Verdict, Who, WhoOf};
+use access_vectors::{Class, Vector, class_of, perm_of};
+use flask_sid::{Memory, Name, Word};
+use std::alloc::Global;
+use text_lines::{FaultKind, Refusal, Words};
+
+#[tactic(auto, unfolding(crate::specs::Known::whole_row))]
+fn whole_row(class: Class) -> Vector
+    ensures { result ≡ Known.whole_row class }
+{
+    match class {
+        Class::File => Vector::of(0xff),
+        Class::Dir => Vector::of(0xff),
+        Class::Process => Vector::of(0x7f),
+        Class::Port => Vector::of(0x1f),
+        Class::Security => Vector::of(1),
+    }
+}
+
+fn perms_named(class: Class, words: Words<'_>) -> Option<Vector>
+    ensures { result ≡ Known.perms_named class 0 words.entry }
+{
+    let mut vector = Vector::empty();
+    let mut rest = words;
+    'names: while let Some(name) = rest.next() {
+        let perm = perm_of(class, name.as_bytes())?;
+        vector = vector.with(perm.index());
+    }
+    Some(vector)
+}
+
+#[tactic(auto, unfolding(crate::specs::Known::perms_of))]
+fn perms_of(class: Class, words: &Words<'_>) -> Option<Vector>
+    ensures { result ≡ Known.perms_of class words.now }
+{
+    let mut rest = words.again();
+    match rest.next() {
+        None => Some(Vector::empty()),
+        Some(first) => {
+            if first.is(b"*") {
+                Some(whole_row(class))
+            } else {
+                perms_named(class, words.again())
+            }
+        }
+    }
+}
+
+fn kept_who(alloc: Global, words: &WhoOf<Word<'_>>) -> Result<Who, Memory>
+    ensures { IfOk result (λ who. who ≡ words.now) }
+{
+    match words {
+        WhoOf::Named(name) => {
+            let name = Name::of(alloc, name)?;
+            Ok(WhoOf::Named(name))
+        }
+        WhoOf::Any => Ok(WhoOf::Any),
+        WhoOf::Itself => Ok(WhoOf::Itself),
+    }
+}
+
+impl PolicyParts {
+    /// The line on permissions that the words of a line are. `Unknown` exactly where they name what no line above
+    /// declares, or what the table of classes lacks.
+    #[tactic(auto, unfolding(crate::specs::Known::pattern_of))]
+    pub(crate) fn pattern(
+        &self,
+        alloc: Global,
+        line: u32,
+        words: &PatternForm<'_>,
+    ) -> Result<Pattern, Refusal>
+        ensures { Gives result (found_or Unknown (Known.pattern_of line words.now self.now)) }
+    {
+        if !self.is_known(&words.source) || !self.is_known(&words.target) {
+            return Err(Refusal::Fault(FaultKind::Unknown));
+        }
+        let Some(class) = class_of(words.class.as_bytes()) else {
+            return Err(Refusal::Fault(FaultKind::Unknown));
+        };
+        let Some(perms) = perms_of(class, &words.perms) else {
+            return Err(Refusal::Fault(FaultKind::Unknown));
+        };
+        Ok(Pattern {
+            line,
+            source: kept_who(alloc, &words.source)?,
+            target: kept_who(alloc, &words.target)?,
+            class,
+            perms,
+        })
+    }
+
+    /// The rule line that the words of a line are, which give a type. `Unknown` as with `pattern`.
+    #[tactic(auto, unfolding(crate::specs::Known::labelling_rule))]
+    pub(crate) fn labelling_rule(
+        &self,
+        alloc: Global,
+        line: u32,
+        labelling: Labelling,
+        words: &LabelForm<'_>,
+    ) -> Result<RuleLine, Refusal>
+        ensures { Gives result (found_or Unknown (Known.labelling_rule line labelling words.now self.now)) }
+    {
+        if !self.is_known(&words.source)
+            || !self.is_known(&words.target)
+            || !self.is_kind(&words.kind)
+        {
+            return Err(Refusal::Fault(FaultKind::Unknown));
+        }
+        let Some(class) = class_of(words.class.as_bytes()) else {
+            return Err(Refusal::Fault(FaultKind::Unknown));
+        };
+        Ok(RuleLine {
+            line,
+            source: kept_who(alloc, &words.source)?,
+            target: kept_who(alloc, &words.target)?,
+            class,
+            verdict: labelled(labelling, Name::of(alloc, &words.kind)?),
+        })
+    }
+}
+
+fn labelled(labelling: Labelling, kind: Name) -> Verdict
+    ensures { result ≡ Known.labelled labelling kind }
+{
+    match labelling {
+        Labelling::Transition => Verdict::Transition(kind),
+        Labelling::Member => Verdict::Member(kind),
+    }
+}
+
+/// The rule line that a line on permissions is.
+pub(crate) fn deciding_rule(decision: Decision, pattern: Pattern) -> RuleLine
+    ensures { result ≡ Known.deciding_rule decision pattern }
+{
+    let Pattern {
+        line,
+        source,
+        target,
+        class,
+        perms,
+    } = pattern;
+    RuleLine {
+        line,
+        source,
+        target,
+        class,
+        verdict: decided(decision, perms),
+    }
+}
+
+fn decided(decision: Decision, perms: Vector) -> Verdict
+    ensures { result ≡ Known.decided decision perms }
+{
+    match decision {
+        Decision::Allow => Verdict::Allow(perms),
+        Decision::Withhold => Verdict::Withhold(perms),
+    }
+}

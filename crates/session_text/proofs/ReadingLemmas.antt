@@ -1,0 +1,34 @@
+-- What is left of a text, read from here, is the whole answer.
+use Rattle.std.proofs.Common.{◌≡◌, ℕ, List, [], ◌∷◌, Result, Ok, Err}
+use Rattle.text_lines.specs.Lines.{lines_of}
+use Rattle.text_lines.specs.ResultSteps.{LineFault}
+use Rattle.text_lines.specs.Refusals.{FailsText}
+use Rattle.text_lines.specs.declared.fault.TextFault.{TextFault}
+use Rattle.text_lines.specs.declared.fault.TextFault.TheVariants as text_fault
+use Rattle.session_text.specs.Reading.{read_line, read_lines, read_end, session_of}
+use Rattle.session_text.specs.declared.session.SessionParts.{SessionParts}
+use Rattle.session_text.specs.declared.reader.SessionReader.{SessionReader}
+
+-- what the reader makes of the rest is what the text is
+pub record IsBelow (reader : SessionReader) (rest bytes : List ℕ) : Type 0 where
+  pub so_far : read_lines reader (lines_of rest) ≡ session_of bytes
+
+-- a line without fault
+pub below_line : (reader next : SessionReader) (rest below line bytes : List ℕ) → IsBelow reader rest bytes → lines_of rest ≡ line ∷ lines_of below → read_line reader line ≡ Ok next → IsBelow next below bytes
+unfolding read_lines
+below_line reader next rest below line bytes is_below lines said = record { so_far = rw (lines, said) at is_below.so_far }
+
+-- a faulty line
+faulty : (reader : SessionReader) (rest below line bytes : List ℕ) (e : LineFault) → IsBelow reader rest bytes → lines_of rest ≡ line ∷ lines_of below → read_line reader line ≡ Err e → session_of bytes ≡ Err e
+unfolding read_lines
+faulty reader rest below line bytes e is_below lines said = let total = rw (lines, said) at is_below.so_far in cc
+
+-- the text is refused as its faulty line is
+pub fails_at : (reader : SessionReader) (rest below line bytes : List ℕ) (fault : TextFault) → IsBelow reader rest bytes → lines_of rest ≡ line ∷ lines_of below → FailsText fault (read_line reader line) → FailsText fault (session_of bytes)
+fails_at reader rest below line bytes text_fault.Memory is_below lines said = tt
+fails_at reader rest below line bytes (text_fault.Text n kind) is_below lines said = faulty reader rest below line bytes (record { line = n; kind = kind }) is_below lines said
+
+-- no line is left
+pub at_end : (reader : SessionReader) (rest bytes : List ℕ) → IsBelow reader rest bytes → lines_of rest ≡ [] → session_of bytes ≡ read_end reader
+unfolding read_lines
+at_end reader rest bytes is_below none = let total = rw none at is_below.so_far in cc

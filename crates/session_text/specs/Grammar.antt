@@ -1,0 +1,203 @@
+-- What a line of a session text asks of the lines above it, and what it adds to them.
+use Rattle.std.specs.Prelude.{ℕ, ◌+◌, Bool, true, false, ◌&&◌, ◌||◌, not, ◌==◌, nat_le, nat_lt, List, [], ◌∷◌, ◌++◌, length, replicate, slice_get, slice_set, Option, Some, None, unwrap_or, Result, Ok, Err, if◌then◌else◌, codes}
+use Rattle.std.specs.List.{list_any, position}
+use Rattle.std.specs.Str.{bytes_eq}
+use Rattle.flask_sid.specs.Names.{is_long}
+use Rattle.flask_sid.specs.Contexts.{is_long_context}
+use Rattle.flask_sid.specs.declared.context.ContextOf.{ContextOf}
+use Rattle.text_lines.specs.declared.fault.FaultKind.{FaultKind}
+use Rattle.text_lines.specs.declared.fault.FaultKind.TheVariants.{Syntax, Order, Limit, Unknown, Undeclared, Twice, Unbuilt}
+use Rattle.text_lines.specs.ResultSteps.{◌>>=◌, found_or}
+use Rattle.policy_text.specs.declared.policy.ContextLine.{ContextLine}
+use Rattle.policy_text.specs.Above.{same_context}
+use Rattle.file_manager.specs.Paths.{same_path}
+use Rattle.file_manager.specs.declared.call.FileCall.{FileCall}
+use Rattle.file_manager.specs.declared.call.FileCall.TheVariants.{OpenFile, ReadFile}
+use Rattle.session_text.specs.PathForms.{is_long_path}
+use Rattle.session_text.specs.RunForms.{run_form}
+use Rattle.session_text.specs.declared.form.CallForm.{CallForm}
+use Rattle.session_text.specs.declared.form.CallForm.TheVariants.{Open, Read}
+use Rattle.session_text.specs.declared.form.RunForm.{RunForm}
+use Rattle.session_text.specs.declared.form.RunForm.TheVariants as form
+use Rattle.file_manager.specs.declared.opening.Node.{Node}
+use Rattle.session_text.specs.declared.session.ClientLine.{ClientLine}
+use Rattle.session_text.specs.declared.session.Run.{Run}
+use Rattle.session_text.specs.declared.session.Run.TheVariants.{File, Begin, End, Notify, Ack}
+use Rattle.session_text.specs.declared.session.SessionParts.{SessionParts}
+
+-- how many there may be: nodes besides the root, clients, and bytes of a data word
+abbrev pub node_limit : ℕ
+node_limit = 4095
+
+abbrev pub client_limit : ℕ
+client_limit = 62
+
+abbrev pub data_limit : ℕ
+data_limit = 1024
+
+-- the identifier of a place among the context lines, of which there are at most 4,095
+abbrev pub sid_at : ℕ → Option ℕ
+sid_at at = if nat_lt at 4095 then Some (at + 1) else None
+
+-- the identifier of a declared context: its place among the context lines, from 1
+unfoldable pub context_sid : List ContextLine → ContextOf (List ℕ) → Option ℕ
+context_sid contexts context = sid_of_place (position (λ line. same_context line.context context) contexts)
+  where
+    sid_of_place : Option ℕ → Option ℕ
+    sid_of_place None = None
+    sid_of_place (Some at) = sid_at at
+
+-- the number of a client
+unfoldable pub client_number : List ClientLine → List ℕ → Option ℕ
+client_number clients name = position (λ client. bytes_eq client.name name) clients
+
+-- a node of that path is there
+unfoldable pub has_node : List Node → List (List ℕ) → Bool
+has_node nodes path = list_any (λ node. same_path node.path path) nodes
+
+-- a client of that name is there
+unfoldable pub has_client : List ClientLine → List ℕ → Bool
+has_client clients name = list_any (λ client. bytes_eq client.name name) clients
+
+-- a datum longer than data may be
+abbrev pub is_long_data : Option (List ℕ) → Bool
+is_long_data None = false
+is_long_data (Some bytes) = nat_lt data_limit (length bytes)
+
+-- the bytes of a file: none without a datum
+abbrev pub data_bytes : Option (List ℕ) → List ℕ
+data_bytes None = []
+data_bytes (Some bytes) = bytes
+
+-- the root or a path in the root, which is the only directory
+abbrev pub is_below_root : List (List ℕ) → Bool
+is_below_root path = nat_le (length path) 1
+
+-- a session with one file more
+abbrev pub with_file : List (List ℕ) → ℕ → List ℕ → SessionParts → SessionParts
+with_file path sid bytes session =
+    record session { nodes = session.nodes ++ record { path = path; sid = sid; bytes = Some bytes } ∷ [] }
+
+-- a session with one client more
+abbrev pub with_client : List ℕ → ℕ → SessionParts → SessionParts
+with_client name sid session = record session { clients = session.clients ++ record { name = name; sid = sid } ∷ [] }
+
+-- a session with one line more
+abbrev pub with_line : ℕ → Run → SessionParts → SessionParts
+with_line n run session = record session { lines = session.lines ++ record { line = n; run = run } ∷ [] }
+
+-- a `file` line past a limit, below so many nodes
+unfoldable pub is_past_file : List (List ℕ) → ContextOf (List ℕ) → Option (List ℕ) → ℕ → Bool
+is_past_file path context bytes nodes = is_long_path path || is_long_context context || is_long_data bytes || nat_le node_limit nodes
+
+-- a path that a node has, or the root
+unfoldable pub is_taken : List Node → List (List ℕ) → Bool
+is_taken nodes path = length path == 0 || has_node nodes path
+
+-- a `file` line
+unfoldable pub file_read : List (List ℕ) → ContextOf (List ℕ) → Option (List ℕ) → SessionParts → Result SessionParts FaultKind
+file_read path context bytes session =
+    if is_past_file path context bytes (length session.nodes) then Err Limit
+    else if not (is_below_root path) then Err Unknown
+    else found_or Undeclared (context_sid session.policy.contexts context) >>= λ sid. placed sid
+  where
+    placed : ℕ → Result SessionParts FaultKind
+    placed sid = if is_taken session.nodes path then Err Twice else Ok (with_file path sid (data_bytes bytes) session)
+
+-- a `client` line past a limit, below so many clients
+unfoldable pub is_past_client : List ℕ → ContextOf (List ℕ) → ℕ → Bool
+is_past_client name context clients = is_long name || is_long_context context || nat_le client_limit clients
+
+-- a name that a client has, or the administrator's
+unfoldable pub is_named : List ClientLine → List ℕ → Bool
+is_named clients name = bytes_eq name (codes "admin") || has_client clients name
+
+-- a `client` line
+unfoldable pub client_read : List ℕ → ContextOf (List ℕ) → SessionParts → Result SessionParts FaultKind
+client_read name context session =
+    if is_past_client name context (length session.clients) then Err Limit
+    else found_or Undeclared (context_sid session.policy.contexts context) >>= λ sid. named sid
+  where
+    named : ℕ → Result SessionParts FaultKind
+    named sid = if is_named session.clients name then Err Twice else Ok (with_client name sid session)
+
+-- a call, with its numbers and its path in their ranges
+unfoldable pub call_read : CallForm → Result FileCall FaultKind
+call_read (Open slot path mode) =
+    if nat_lt 63 slot || is_long_path path then Err Limit else Ok (OpenFile slot path mode)
+call_read (Read slot offset most) =
+    if nat_lt 63 slot || nat_lt 65536 offset || most == 0 || nat_lt 1024 most then Err Limit else Ok (ReadFile slot offset most)
+
+-- a call whose path is a name in the root; no other is built yet
+abbrev pub is_built_call : CallForm → Bool
+is_built_call (Open slot path mode) = length path == 1
+is_built_call (Read slot offset most) = true
+
+-- a session whose lines run: what it says so far, and which clients hold a pass, by number
+pub record Running : Type 0 where
+  pub session : SessionParts
+  pub held : List Bool
+
+-- a session whose lines begin to run: no client holds a pass
+abbrev pub begun : SessionParts → Running
+begun session = record { session = session; held = replicate (length session.clients) false }
+
+-- a client holds a pass
+abbrev pub is_held : List Bool → ℕ → Bool
+is_held held client = unwrap_or (slice_get held client) false
+
+-- a client of that name holds a pass; one that was not declared holds none
+abbrev pub holds : Running → List ℕ → Bool
+holds running name = number_holds (client_number running.session.clients name)
+  where
+    number_holds : Option ℕ → Bool
+    number_holds None = false
+    number_holds (Some client) = is_held running.held client
+
+-- a session with one line more, in which no pass is taken or given back
+abbrev pub running_on : Running → ℕ → Run → Running
+running_on running n run = record { session = with_line n run running.session; held = running.held }
+
+-- a session with one line more, with which a client takes a pass or gives it back
+abbrev pub held_on : Running → ℕ → Run → ℕ → Bool → Running
+held_on running n run client now = record { session = with_line n run running.session; held = slice_set running.held client now }
+
+-- a client's call
+unfoldable pub client_call_read : ℕ → List ℕ → CallForm → Running → Result Running FaultKind
+client_call_read n name said running =
+    if is_long name then Err Limit
+    else call_read said >>= λ call. found_or Unknown (client_number running.session.clients name) >>= λ client. built client call
+  where
+    built : ℕ → FileCall → Result Running FaultKind
+    built client call = if is_built_call said then Ok (running_on running n (File client call)) else Err Unbuilt
+
+-- a `begin` line
+unfoldable pub begin_read : ℕ → List ℕ → Running → Result Running FaultKind
+begin_read n name running =
+    if holds running name then Err Order
+    else if is_long name then Err Limit
+    else found_or Unknown (client_number running.session.clients name) >>= λ client. Ok (held_on running n (Begin client) client true)
+
+-- an `end` line
+unfoldable pub end_read : ℕ → List ℕ → Running → Result Running FaultKind
+end_read n name running =
+    if not (holds running name) then Err Order
+    else found_or Unknown (client_number running.session.clients name) >>= λ client. Ok (held_on running n (End client) client false)
+
+-- a `notify` line
+unfoldable pub notify_read : ℕ → ℕ → Running → Result Running FaultKind
+notify_read n version running = if nat_lt 255 version then Err Limit else Ok (running_on running n (Notify version))
+
+-- a line of this form that runs
+unfoldable pub run_read : ℕ → RunForm → Running → Result Running FaultKind
+run_read n (form.Call name said) running = client_call_read n name said running
+run_read n (form.Begin name) running = begin_read n name running
+run_read n (form.End name) running = end_read n name running
+run_read n (form.Notify version) running = notify_read n version running
+run_read n form.Ack running = Ok (running_on running n Ack)
+run_read n form.Unbuilt running = Err Unbuilt
+
+-- what a line that runs says, if anything
+unfoldable pub run_words_read : ℕ → List (List ℕ) → Running → Result Running FaultKind
+run_words_read n [] running = Ok running
+run_words_read n (first ∷ words) running = found_or Syntax (run_form first words) >>= λ said. run_read n said running

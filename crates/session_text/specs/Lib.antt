@@ -1,0 +1,6 @@
+pub mod PathForms
+pub mod SetupForms
+pub mod RunForms
+pub mod Sessions
+pub mod Grammar
+pub mod Reading

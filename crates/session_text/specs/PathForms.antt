@@ -1,0 +1,32 @@
+-- Paths, as the texts write them.
+use Rattle.std.specs.Prelude.{ℕ, Bool, false, ◌&&◌, ◌||◌, not, ◌==◌, nat_le, nat_lt, List, [], ◌∷◌, length, Option, Some, None, if◌then◌else◌, codes}
+use Rattle.std.specs.List.{list_all, list_any, slice_split}
+use Rattle.std.specs.Str.{bytes_eq}
+use Rattle.flask_sid.specs.Names.{is_long}
+
+-- a letter, a digit, `.`, `_` or `-`
+abbrev pub is_part_byte : ℕ → Bool
+is_part_byte b = (nat_le 97 b && nat_le b 122) || (nat_le 65 b && nat_le b 90) || (nat_le 48 b && nat_le b 57) || b == 46 || b == 95 || b == 45
+
+-- a part of a path, of any length: such bytes, one or more, and neither `.` nor `..`
+unfoldable pub is_part_form : List ℕ → Bool
+is_part_form part = nat_lt 0 (length part) && list_all is_part_byte part && not (bytes_eq part (codes ".")) && not (bytes_eq part (codes ".."))
+
+-- the parts of what stands behind the first `/`: none where that is nothing
+abbrev pub parts_behind : List ℕ → List (List ℕ)
+parts_behind [] = []
+parts_behind (b ∷ bs) = slice_split (λ c. c == 47) (b ∷ bs)
+
+-- the parts of a path, which may be too many or too long: `/`, or parts each behind a `/`
+unfoldable pub path_form : List ℕ → Option (List (List ℕ))
+path_form [] = None
+path_form (b ∷ bs) = if b == 47 && list_all is_part_form (parts_behind bs) then Some (parts_behind bs) else None
+
+-- more than 16 parts, or a part of more than 32 bytes
+unfoldable pub is_long_path : List (List ℕ) → Bool
+is_long_path parts = nat_lt 16 (length parts) || list_any is_long parts
+
+-- the parts of a text that is cut at each `/`, and none where there is no text
+abbrev pub parts_left : Option (List ℕ) → List (List ℕ)
+parts_left None = []
+parts_left (Some rest) = slice_split (λ c. c == 47) rest

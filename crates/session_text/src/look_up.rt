@@ -1,0 +1,83 @@
+//! What the lines above have: contexts, nodes and clients by their words.
+
+ghost use Rattle.std.specs.Prelude.{◌≡◌, ◌<◌, ◌≤◌, Some, length, IfSome};
+ghost use Rattle.std.specs.List.{list_any, position};
+ghost use Rattle.std.specs.Str.{bytes_eq};
+ghost use Rattle.file_manager.specs.Paths.{same_path};
+ghost use Rattle.policy_text.specs.Above.{same_context};
+ghost use Rattle.session_text.specs.Grammar;
+ghost use Rattle.session_text.specs.Sessions.{IsSidOf};
+
+use crate::session::ClientLine;
+use file_manager::{FilePath, Node};
+use flask_sid::{ContextOf, Sid, Word};
+use policy_text::ContextLine;
+
+/// The identifier of a declared context: its place among the `context` lines, from 1.
+#[tactic(auto, unfolding(crate::specs::Grammar::context_sid))]
+pub fn context_sid(contexts: &[ContextLine], context: &ContextOf<Word<'_>>) -> Option<Sid>
+    ensures value { result ≡ Grammar.context_sid contexts.now context.now }
+    ensures known { IfSome result (IsSidOf contexts.now) }
+{
+    match context_place(contexts, context) {
+        None => None,
+        Some(at) => {
+            if at < 4095 {
+                Sid::of(at as u16 + 1)
+            } else {
+                None
+            }
+        }
+    }
+}
+
+fn context_place(contexts: &[ContextLine], context: &ContextOf<Word<'_>>) -> Option<usize>
+    ensures value { result ≡ position (λ line. same_context line.context context.now) contexts.now }
+    ensures within { IfSome result (λ at. at < length contexts.now) }
+{
+    contexts.iter().position(|line| is_context(line, context))
+}
+
+fn is_context(line: &ContextLine, context: &ContextOf<Word<'_>>) -> bool
+    ensures { result ≡ same_context line.now.context context.now }
+{
+    line.context.user.is(&context.user)
+        && line.context.role.is(&context.role)
+        && line.context.kind.is(&context.kind)
+}
+
+/// The number of a client.
+#[tactic(auto, unfolding(crate::specs::Grammar::client_number))]
+pub fn client_number(clients: &[ClientLine], name: &Word<'_>) -> Option<u8>
+    requires { length clients.now ≤ 62 }
+    ensures value { result ≡ Grammar.client_number clients.now name.now }
+    ensures within { IfSome result (λ number. number < length clients.now) }
+{
+    match client_place(clients, name) {
+        None => None,
+        Some(at) => Some(at as u8),
+    }
+}
+
+fn client_place(clients: &[ClientLine], name: &Word<'_>) -> Option<usize>
+    ensures value { result ≡ position (λ client. bytes_eq client.name name.now) clients.now }
+    ensures within { IfSome result (λ at. at < length clients.now) }
+{
+    clients.iter().position(|client| client.name.is(name))
+}
+
+/// Whether a client of that name is there.
+#[tactic(auto, unfolding(crate::specs::Grammar::has_client))]
+pub fn has_client(clients: &[ClientLine], name: &Word<'_>) -> bool
+    ensures { result ≡ Grammar.has_client clients.now name.now }
+{
+    clients.iter().any(|client| client.name.is(name))
+}
+
+/// Whether a node of that path is there.
+#[tactic(auto, unfolding(crate::specs::Grammar::has_node))]
+pub fn has_node(nodes: &[Node], path: &FilePath) -> bool
+    ensures { result ≡ Grammar.has_node nodes.now path.now }
+{
+    nodes.iter().any(|node| node.path.is(path))
+}

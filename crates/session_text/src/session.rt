@@ -1,0 +1,153 @@
+ghost use Rattle.std.specs.Prelude.{◌≡◌, ◌<◌, ◌≤◌, [], length, IfOk, IfSome};
+ghost use Rattle.session_text.specs.Sessions.{IsSession, IsSidOf, IsRun};
+ghost use Rattle.session_text.specs.Grammar;
+
+use crate::look_up::context_sid;
+use file_manager::{FileCall, FilePath, Node};
+use flask_sid::{ContextOf, Memory, Name, Piece, Rows, Sid, Word};
+use policy_text::PolicyText;
+use std::alloc::Global;
+use std::marker::Model;
+
+/// A client. Clients are numbered from 0 in the order of their lines.
+#[derive(Debug, Drop)]
+pub struct ClientLine {
+    pub name: Name,
+    /// The place of its context among the `context` lines, from 1.
+    pub sid: Sid,
+}
+
+/// What a line that runs asks.
+#[derive(Debug, Drop)]
+pub enum Run {
+    /// A client's call of the file manager.
+    File { client: u8, call: FileCall },
+    /// A client takes a pass of the file manager, and holds it.
+    Begin { client: u8 },
+    /// A client gives its held pass of the file manager back.
+    End { client: u8 },
+    /// The administrator chooses a version.
+    Notify { ver: u8 },
+    /// The administrator asks whether the change is complete.
+    Ack,
+}
+
+/// A line that runs, with its number in the text.
+#[derive(Debug, Drop)]
+pub struct RunLine {
+    pub line: u32,
+    pub run: Run,
+}
+
+/// All that a session text says.
+#[derive(Debug, Drop)]
+pub struct SessionParts {
+    pub policy: PolicyText,
+    /// The files that are there at the start. A node's `sid` is the place of its context among the `context` lines,
+    /// from 1.
+    pub nodes: Rows<Node>,
+    pub clients: Rows<ClientLine>,
+    pub lines: Rows<RunLine>,
+}
+
+/// A session. It keeps what the grammar asks of one: nodes and clients have declared contexts, the clients are at
+/// most 62, and each line is one of a client of the session, with numbers in their ranges.
+#[derive(Debug, Drop)]
+pub struct Session {
+    parts: SessionParts,
+}
+
+impl Model for Session {
+    ghost use Rattle.session_text.specs.declared.session.SessionParts.{SessionParts};
+    ghost use Rattle.session_text.specs.Sessions.{IsSession};
+
+    ghost Value = { SessionParts };
+
+    ghost view = { λ session. session.parts };
+
+    ghost invariant = { λ session. IsSession session.parts };
+}
+
+impl Session {
+    /// What the session says.
+    pub fn parts(&self) -> &SessionParts
+        ensures { result.now ≡ self.now }
+    {
+        &self.parts
+    }
+
+    /// The identifier of a declared context.
+    pub(crate) fn sid_of(&self, context: &ContextOf<Word<'_>>) -> Option<Sid>
+        ensures value { result ≡ Grammar.context_sid self.now.policy.contexts context.now }
+        ensures known { IfSome result (IsSidOf self.now.policy.contexts) }
+    {
+        context_sid(self.parts.policy.parts().contexts.as_slice(), context)
+    }
+
+    /// The clients, of whom there are at most 62.
+    pub fn clients(&self) -> &[ClientLine]
+        ensures value { result.now ≡ self.now.clients }
+        ensures few { length result.now ≤ 62 }
+    {
+        self.parts.clients.as_slice()
+    }
+
+    /// What the session says, to take apart.
+    pub fn into_parts(self) -> SessionParts
+        ensures value { result ≡ self }
+        ensures kept { IsSession self }
+    {
+        let Session { parts } = self;
+        parts
+    }
+}
+
+// How a session grows, line after line.
+impl Session {
+    /// The session of a policy, with nothing there yet.
+    pub(crate) fn begun(alloc: Global, policy: PolicyText) -> Session
+        ensures { result ≡ record { policy = policy; nodes = []; clients = []; lines = [] } }
+    {
+        Session {
+            parts: SessionParts {
+                policy,
+                nodes: Rows::new(alloc),
+                clients: Rows::new(alloc),
+                lines: Rows::new(alloc),
+            },
+        }
+    }
+
+    pub(crate) fn with_file(self, path: FilePath, sid: Sid, bytes: Piece) -> Result<Session, Memory>
+        requires { IsSidOf self.policy.contexts sid }
+        ensures { IfOk result (λ next. next ≡ Grammar.with_file path sid bytes self) }
+    {
+        let Session { mut parts } = self;
+        let node = Node {
+            path,
+            sid,
+            bytes: Some(bytes),
+        };
+        parts.nodes.push(node)?;
+        Ok(Session { parts })
+    }
+
+    pub(crate) fn with_client(self, name: Name, sid: Sid) -> Result<Session, Memory>
+        requires sid { IsSidOf self.policy.contexts sid }
+        requires few { length self.clients < 62 }
+        ensures { IfOk result (λ next. next ≡ Grammar.with_client name sid self) }
+    {
+        let Session { mut parts } = self;
+        parts.clients.push(ClientLine { name, sid })?;
+        Ok(Session { parts })
+    }
+
+    pub(crate) fn with_line(self, line: u32, run: Run) -> Result<Session, Memory>
+        requires { IsRun (length self.clients) run }
+        ensures { IfOk result (λ next. next ≡ Grammar.with_line line run self) }
+    {
+        let Session { mut parts } = self;
+        parts.lines.push(RunLine { line, run })?;
+        Ok(Session { parts })
+    }
+}
