@@ -1,0 +1,4 @@
+pub mod Passed
+pub mod Hands
+pub mod Standing
+pub mod Ending

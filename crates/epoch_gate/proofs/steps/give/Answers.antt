@@ -1,0 +1,11 @@
+use Rattle.std.proofs.Common.{◌∙◌, rules}
+use Rattle.epoch_gate.proofs.Hands as hands
+use Rattle.epoch_gate.proofs.steps.give.Goals as goal
+
+pub fetch_add-requires : goal.fetch_add-requires
+fetch_add-requires g c =
+    let h = c.requires.seat in
+    (c.exchange-left.ensures.0 ∙ c.requires.table.0, search rules, hands.give_after g.V.Journal.means g.D.Decider.decides c.args.words.now.key _ _ c.args.place.now.me _ c.args.value h.0 h.1 h.2 c.exchange-left.ensures.3 c.requires.history c.requires.value)
+
+pub returns-clause-given : goal.returns-clause-given
+returns-clause-given g c = hands.given_after g.V.Journal.means g.D.Decider.decides c.args.words.now.key c.args.place.now.me _ _ c.args.value _ c.requires.seat.2 c.exchange-left.ensures.3 c.fetch_add.ensures.2.0

@@ -1,0 +1,5 @@
+use Rattle.std.proofs.Common.{◌≡◌, []}
+use Rattle.epoch_gate.proofs.turn.wait_for_turn.Given as goal
+
+abbrev pub invariant-loop : goal.invariant-loop
+invariant-loop g l = (l.place.table_id ≡ l.initial.place.table_id) × (l.place.me ≡ (record l.initial.place.me.0 { trace = l.place.me.0.trace }, []))

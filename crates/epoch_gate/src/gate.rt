@@ -1,0 +1,85 @@
+//! The gate, and what callers do at it.
+ghost use Rattle.std.specs.Prelude.{◌≡◌, ◌↔◌, Some, OnOk, OnErr, IsErr};
+ghost use Rattle.gate_rule.specs.declared.view.Pass.TheVariants.{Out};
+ghost use Rattle.gate_rule.specs.Views;
+ghost use Rattle.gate_rule.specs.Told;
+ghost use Rattle.epoch_gate.specs.Seats.{IsOfGate, IsInside, HasEntered};
+
+use crate::seat::Seat;
+use crate::steps;
+use access_vectors::Decider;
+use atomic_table::Table;
+use gate_rule::{Journal, Lawful, Terms, View};
+use row_words::split_gate;
+use std::alloc::Global;
+use std::marker::Model;
+
+/// The words and the slot of a manager that many threads use, and its decider.
+#[derive(Drop)]
+pub struct Gate<'d, V: Journal<D>, D: Decider> {
+    pub(crate) table: Table<Option<V>, View<V::Entry, D, V::Opening>, Terms<V, D>, Lawful, Global>,
+    pub(crate) decider: &'d D,
+    pub(crate) seats: u8,
+    pub(crate) quota: u32,
+}
+
+impl<'d, V: Journal<D>, D: Decider> Model for Gate<'d, V, D> {
+    ghost use Rattle.std.specs.Prelude.{◌≡◌, ◌<◌, ◌≤◌};
+    ghost use Rattle.gate_rule.specs.Rule.{fixed_of};
+    ghost use Rattle.epoch_gate.specs.Seats.{Site};
+
+    ghost Value = { Site D V.Opening };
+
+    ghost view = { λ g. record { table = g.table.shared.table_id; fixed = fixed_of V.means g.table.shared.key } };
+
+    ghost invariant = { λ g. (g.table.shared.table_id.words ≡ 517) × (g.table.shared.table_id.slots ≡ 1) × (g.table.shared.key.decider.value ≡ g.decider.now) × (g.table.shared.key.seats ≡ g.seats) × (g.table.shared.key.quota ≡ g.quota) × (g.table.shared.key.most < 1048576) };
+}
+
+/// The seat has entered as often as it may.
+#[derive(Clone, Copy, Debug, PartialEq, Eq)]
+pub struct Spent;
+
+impl<'d, V: Journal<D>, D: Decider> Gate<'d, V, D> {
+    /// What decides, as the gate was given it.
+    pub fn decider(&self) -> &D
+        ensures { result.now ≡ self.now.fixed.decider }
+    {
+        self.decider
+    }
+
+    /// Gives the seat a pass, with the number and version that one step finds in the gate word. `Spent` exactly
+    /// where no entering is left.
+    pub fn enter(&self, seat: &mut Seat<V, D>) -> Result<(), Spent>
+        requires gate { IsOfGate self.now seat.old }
+        requires out { seat.old.view.rights.pass ≡ Out }
+        ensures ok { OnOk result (HasEntered V.means.kind seat.old.view seat.new.view) }
+        ensures pass { OnOk result (IsInside seat.new.view.rights.pass) }
+        ensures rule { OnOk result (Told.Stood V.means D.decides self.now.fixed seat.old.view 0 seat.new.view.trace.last.found) }
+        ensures spent { IsErr result ↔ (seat.old.view.rights.quota ≡ 0) }
+        ensures err { OnErr result (seat.new ≡ seat.old) }
+        ensures gate { IsOfGate self.now seat.new }
+    {
+        if seat.quota == 0 {
+            return Err(Spent);
+        }
+        let found = steps::enter(&self.table.shared, &mut seat.place);
+        let (number, version, _) = split_gate(found);
+        seat.quota -= 1;
+        seat.pass = Some((number, version));
+        Ok(())
+    }
+
+    /// Takes the seat's pass back, with one step on the counter of its number's parity.
+    pub fn leave(&self, seat: &mut Seat<V, D>)
+        requires gate { IsOfGate self.now seat.old }
+        requires pass { IsInside seat.old.view.rights.pass }
+        ensures left { seat.new.view ≡ Views.left seat.old.view seat.new.view.trace.last.found }
+        ensures gate { IsOfGate self.now seat.new }
+    {
+        let Some((number, _)) = seat.pass else {
+            unreachable!()
+        };
+        steps::leave(&self.table.shared, &mut seat.place, number);
+        seat.pass = None;
+    }
+}

@@ -1,0 +1,10 @@
+pub mod Places
+pub mod Serving
+pub mod Passing
+pub mod RowsKept
+pub mod Histories
+pub mod Steps
+pub mod Turns
+pub mod Giving
+pub mod Numbers
+pub mod Seating
