@@ -1,5 +1,17 @@
 //! The program: reads a session, runs its lines on the managers, and prints what they answer.
 #![tactic(auto)]
 
+mod desk;
 mod reading;
+mod serial;
+mod status;
+mod stops;
+mod texts;
+mod top;
+mod walking;
 mod writing;
+
+pub use reading::INPUT_LIMIT;
+pub use status::Status;
+pub use stops::{NoStops, Stops};
+pub use top::flaskd;

@@ -19,7 +19,7 @@ use Rattle.session_text.specs.declared.form.CallForm.{CallForm}
 use Rattle.session_text.specs.declared.form.CallForm.TheVariants.{Open, Read}
 use Rattle.session_text.specs.declared.form.RunForm.{RunForm}
 use Rattle.session_text.specs.declared.form.RunForm.TheVariants as form
-use Rattle.session_text.specs.declared.session.NodeLine.{NodeLine}
+use Rattle.file_manager.specs.declared.opening.Node.{Node}
 use Rattle.session_text.specs.declared.session.ClientLine.{ClientLine}
 use Rattle.session_text.specs.declared.session.Run.{Run}
 use Rattle.session_text.specs.declared.session.Run.TheVariants.{File, Begin, End, Notify, Ack}
@@ -52,7 +52,7 @@ unfoldable pub client_number : List ClientLine → List ℕ → Option ℕ
 client_number clients name = position (λ client. bytes_eq client.name name) clients
 
 -- a node of that path is there
-unfoldable pub has_node : List NodeLine → List (List ℕ) → Bool
+unfoldable pub has_node : List Node → List (List ℕ) → Bool
 has_node nodes path = list_any (λ node. same_path node.path path) nodes
 
 -- a client of that name is there
@@ -86,24 +86,40 @@ with_client name sid session = record session { clients = session.clients ++ rec
 abbrev pub with_line : ℕ → Run → SessionParts → SessionParts
 with_line n run session = record session { lines = session.lines ++ record { line = n; run = run } ∷ [] }
 
+-- a `file` line past a limit, below so many nodes
+unfoldable pub is_past_file : List (List ℕ) → ContextOf (List ℕ) → Option (List ℕ) → ℕ → Bool
+is_past_file path context bytes nodes = is_long_path path || is_long_context context || is_long_data bytes || nat_le node_limit nodes
+
+-- a path that a node has, or the root
+unfoldable pub is_taken : List Node → List (List ℕ) → Bool
+is_taken nodes path = length path == 0 || has_node nodes path
+
 -- a `file` line
 unfoldable pub file_read : List (List ℕ) → ContextOf (List ℕ) → Option (List ℕ) → SessionParts → Result SessionParts FaultKind
 file_read path context bytes session =
-    if is_long_path path || is_long_context context || is_long_data bytes || nat_le node_limit (length session.nodes) then Err Limit
+    if is_past_file path context bytes (length session.nodes) then Err Limit
     else if not (is_below_root path) then Err Unknown
     else found_or Undeclared (context_sid session.policy.contexts context) >>= λ sid. placed sid
   where
     placed : ℕ → Result SessionParts FaultKind
-    placed sid = if length path == 0 || has_node session.nodes path then Err Twice else Ok (with_file path sid (data_bytes bytes) session)
+    placed sid = if is_taken session.nodes path then Err Twice else Ok (with_file path sid (data_bytes bytes) session)
+
+-- a `client` line past a limit, below so many clients
+unfoldable pub is_past_client : List ℕ → ContextOf (List ℕ) → ℕ → Bool
+is_past_client name context clients = is_long name || is_long_context context || nat_le client_limit clients
+
+-- a name that a client has, or the administrator's
+unfoldable pub is_named : List ClientLine → List ℕ → Bool
+is_named clients name = bytes_eq name (codes "admin") || has_client clients name
 
 -- a `client` line
 unfoldable pub client_read : List ℕ → ContextOf (List ℕ) → SessionParts → Result SessionParts FaultKind
 client_read name context session =
-    if is_long name || is_long_context context || nat_le client_limit (length session.clients) then Err Limit
+    if is_past_client name context (length session.clients) then Err Limit
     else found_or Undeclared (context_sid session.policy.contexts context) >>= λ sid. named sid
   where
     named : ℕ → Result SessionParts FaultKind
-    named sid = if bytes_eq name (codes "admin") || has_client session.clients name then Err Twice else Ok (with_client name sid session)
+    named sid = if is_named session.clients name then Err Twice else Ok (with_client name sid session)
 
 -- a call, with its numbers and its path in their ranges
 unfoldable pub call_read : CallForm → Result FileCall FaultKind

@@ -13,4 +13,4 @@ pub use form::{CallForm, RunForm, SetupForm, run_form, setup_form};
 pub use parts::{Parts, path_form};
 pub use reader::{SessionReader, read};
 pub use running::Running;
-pub use session::{ClientLine, NodeLine, Run, RunLine, Session, SessionParts};
+pub use session::{ClientLine, Run, RunLine, Session, SessionParts};

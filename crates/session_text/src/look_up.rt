@@ -8,8 +8,8 @@ ghost use Rattle.policy_text.specs.Above.{same_context};
 ghost use Rattle.session_text.specs.Grammar;
 ghost use Rattle.session_text.specs.Sessions.{IsSidOf};
 
-use crate::session::{ClientLine, NodeLine};
-use file_manager::FilePath;
+use crate::session::ClientLine;
+use file_manager::{FilePath, Node};
 use flask_sid::{ContextOf, Sid, Word};
 use policy_text::ContextLine;
 
@@ -76,7 +76,7 @@ pub fn has_client(clients: &[ClientLine], name: &Word<'_>) -> bool
 
 /// Whether a node of that path is there.
 #[tactic(auto, unfolding(crate::specs::Grammar::has_node))]
-pub fn has_node(nodes: &[NodeLine], path: &FilePath) -> bool
+pub fn has_node(nodes: &[Node], path: &FilePath) -> bool
     ensures { result ≡ Grammar.has_node nodes.now path.now }
 {
     nodes.iter().any(|node| node.path.is(path))

@@ -51,7 +51,7 @@ impl Running {
         ensures value { result ≡ Grammar.client_number self.now.session.clients name.now }
         ensures within { IfSome result (λ number. number < length self.now.session.clients) }
     {
-        client_number(self.session.parts().clients.as_slice(), name)
+        client_number(self.session.clients(), name)
     }
 
     fn holds(&self, name: &Word<'_>) -> bool

@@ -1,22 +1,13 @@
-ghost use Rattle.std.specs.Prelude.{◌≡◌, ◌<◌, [], length, IfOk};
+ghost use Rattle.std.specs.Prelude.{◌≡◌, ◌<◌, ◌≤◌, [], length, IfOk, IfSome};
 ghost use Rattle.session_text.specs.Sessions.{IsSession, IsSidOf, IsRun};
 ghost use Rattle.session_text.specs.Grammar;
 
-use file_manager::{FileCall, FilePath};
-use flask_sid::{Memory, Name, Piece, Rows, Sid};
+use crate::look_up::context_sid;
+use file_manager::{FileCall, FilePath, Node};
+use flask_sid::{ContextOf, Memory, Name, Piece, Rows, Sid, Word};
 use policy_text::PolicyText;
 use std::alloc::Global;
 use std::marker::Model;
-
-/// A file that is there at the start.
-#[derive(Debug, Drop)]
-pub struct NodeLine {
-    pub path: FilePath,
-    /// The place of its context among the `context` lines, from 1.
-    pub sid: Sid,
-    /// The bytes of a file; `None` for a directory.
-    pub bytes: Option<Piece>,
-}
 
 /// A client. Clients are numbered from 0 in the order of their lines.
 #[derive(Debug, Drop)]
@@ -52,7 +43,9 @@ pub struct RunLine {
 #[derive(Debug, Drop)]
 pub struct SessionParts {
     pub policy: PolicyText,
-    pub nodes: Rows<NodeLine>,
+    /// The files that are there at the start. A node's `sid` is the place of its context among the `context` lines,
+    /// from 1.
+    pub nodes: Rows<Node>,
     pub clients: Rows<ClientLine>,
     pub lines: Rows<RunLine>,
 }
@@ -78,10 +71,34 @@ impl Model for Session {
 impl Session {
     /// What the session says.
     pub fn parts(&self) -> &SessionParts
-        ensures value { result.now ≡ self.now }
-        ensures kept { IsSession self.now }
+        ensures { result.now ≡ self.now }
     {
         &self.parts
+    }
+
+    /// The identifier of a declared context.
+    pub(crate) fn sid_of(&self, context: &ContextOf<Word<'_>>) -> Option<Sid>
+        ensures value { result ≡ Grammar.context_sid self.now.policy.contexts context.now }
+        ensures known { IfSome result (IsSidOf self.now.policy.contexts) }
+    {
+        context_sid(self.parts.policy.parts().contexts.as_slice(), context)
+    }
+
+    /// The clients, of whom there are at most 62.
+    pub fn clients(&self) -> &[ClientLine]
+        ensures value { result.now ≡ self.now.clients }
+        ensures few { length result.now ≤ 62 }
+    {
+        self.parts.clients.as_slice()
+    }
+
+    /// What the session says, to take apart.
+    pub fn into_parts(self) -> SessionParts
+        ensures value { result ≡ self }
+        ensures kept { IsSession self }
+    {
+        let Session { parts } = self;
+        parts
     }
 }
 
@@ -106,7 +123,7 @@ impl Session {
         ensures { IfOk result (λ next. next ≡ Grammar.with_file path sid bytes self) }
     {
         let Session { mut parts } = self;
-        let node = NodeLine {
+        let node = Node {
             path,
             sid,
             bytes: Some(bytes),

@@ -1,0 +1,21 @@
+use Rattle.std.proofs.Common.{◌≡◌, ◌≤◌, ◌<◌, ◌+◌, ◌^◌, length, All}
+use Rattle.std.specs.Vec.Iter.{into_iter_items}
+use Rattle.session_text.specs.Sessions.{IsRun}
+use Rattle.flaskd_run.specs.Serial.{lines_text}
+use Rattle.flaskd_run.specs.Walking.{decisions_of}
+use Rattle.flaskd_run.specs.Writing.{IsOffered}
+use Rattle.flaskd_run.proofs.serial.run_lines.Given as goal
+
+abbrev pub invariant-lines : goal.invariant-lines
+invariant-lines g l =
+    record {
+      written : IsOffered (g.K.Sink.written l.fn.sink) (g.K.Sink.written l.sink)
+        (lines_text (decisions_of l.fn.desk.policy) l.clients l.fn.desk.day l.fn.lines.items)
+        (lines_text (decisions_of l.fn.desk.policy) l.clients l.desk.day (into_iter_items l.line-iterator));
+      later : g.K.Sink.faults l.fn.sink ≤ g.K.Sink.faults l.sink;
+      policy : l.desk.policy ≡ l.fn.desk.policy;
+      opening : length l.desk.day.files.opening.clients ≡ length l.clients;
+      formed : All (λ line. IsRun (length l.clients) line.run) (into_iter_items l.line-iterator);
+      calls : l.desk.day.calls + length (into_iter_items l.line-iterator) < 2 ^ 64;
+      changes : l.desk.day.changes + length (into_iter_items l.line-iterator) < 2 ^ 64
+    }

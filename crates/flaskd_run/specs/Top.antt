@@ -1,0 +1,98 @@
+-- What the program answers.
+use Rattle.std.specs.Prelude.{◌≡◌, ℕ, Bool, true, false, not, nat_lt, List, [], ◌∷◌, ◌++◌, length, Option, IfSome, Result, Ok, Err, if◌then◌else◌, codes}
+use Rattle.std.specs.Str.{bytes_eq}
+use Rattle.flask_io.specs.Streams.{Takes, Adds}
+use Rattle.text_lines.specs.ResultSteps.{LineFault}
+use Rattle.text_lines.specs.declared.fault.FaultKind.{FaultKind}
+use Rattle.session_text.specs.Reading.{session_of}
+use Rattle.session_text.specs.declared.session.SessionParts.{SessionParts}
+use Rattle.flaskd_run.specs.Reading.{IsEnd}
+use Rattle.flaskd_run.specs.Writing.{AddsFront}
+use Rattle.flaskd_run.specs.Serial.{serial_text}
+use Rattle.flaskd_run.specs.declared.status.Status.{Status}
+use Rattle.flaskd_run.specs.declared.status.Status.TheVariants as status
+
+-- the words of a command: `serial`
+unfoldable pub is_command : List (List ℕ) → Bool
+is_command (word ∷ []) = bytes_eq word (codes "serial")
+is_command words = false
+
+-- more bytes than an input may have
+abbrev pub is_large : List ℕ → Bool
+is_large bytes = nat_lt 4194304 (length bytes)
+
+-- the status of a text that was read, if nothing fails
+abbrev pub status_of : Result SessionParts LineFault → Status
+status_of (Ok session) = status.Ok
+status_of (Err fault) = status.BadText fault.line fault.kind
+
+-- what a text that was read prints
+abbrev pub printed : Result SessionParts LineFault → List ℕ
+printed (Ok session) = serial_text session
+printed (Err fault) = []
+
+-- the status of these words on input of these bytes, in the order of the tests
+unfoldable pub expected_of : List (List ℕ) → List ℕ → Status
+expected_of words bytes =
+    if not (is_command words) then status.Usage
+    else if is_large bytes then status.TooLarge
+    else status_of (session_of bytes)
+
+-- what these words print on input of these bytes: nothing where the input is refused
+unfoldable pub answer_of : List (List ℕ) → List ℕ → List ℕ
+answer_of words bytes = if not (is_command words) then [] else (if is_large bytes then [] else printed (session_of bytes))
+
+-- a status where this one is expected: a fault of the source or want of memory may take its place, and a fault of the sink
+-- that of Ok alone
+abbrev pub Answers : Status → Status → Type 0
+Answers status.ReadFault expected = Unit {0}
+Answers status.Memory expected = Unit {0}
+Answers status.WriteFault expected = expected ≡ status.Ok
+Answers answer expected = expected ≡ answer
+
+-- the source was read to its end, where the status says something of the whole input
+abbrev pub IsWhole : Status → Option (List ℕ) → Type 0
+IsWhole status.Ok left = IsEnd left
+IsWhole (status.BadText line kind) left = IsEnd left
+IsWhole status.WriteFault left = IsEnd left
+IsWhole answer left = Unit {0}
+
+-- Ok wrote the whole text, a fault of the sink or want of memory a front of it, and every other status nothing
+abbrev pub Puts : Status → Option (List ℕ) → Option (List ℕ) → List ℕ → Type 0
+Puts status.Ok before now text = Adds before now text
+Puts status.WriteFault before now text = AddsFront before now text
+Puts status.Memory before now text = AddsFront before now text
+Puts answer before now text = now ≡ before
+
+-- how a run goes: of the bytes that it took from the source, status and text are the stated functions
+pub record Ran (status : Status) (words : List (List ℕ)) (left_before left_after put_before put_after : Option (List ℕ)) : Type 0 where
+  pub taken : List ℕ
+  pub takes : Takes left_before left_after taken
+  pub answers : Answers status (expected_of words taken)
+  pub whole : IsWhole status left_after
+  pub puts : Puts status put_before put_after (answer_of words taken)
+
+-- the exit code of a status
+abbrev pub code_of : Status → ℕ
+code_of status.Ok = 0
+code_of status.Usage = 2
+code_of (status.BadText line kind) = 3
+code_of status.ReadFault = 4
+code_of status.WriteFault = 5
+code_of status.TooLarge = 6
+code_of status.Memory = 7
+
+-- nothing goes out with this status
+abbrev pub IsSilent : Status → Type 0
+IsSilent status.Usage = Unit {0}
+IsSilent (status.BadText line kind) = Unit {0}
+IsSilent status.ReadFault = Unit {0}
+IsSilent status.TooLarge = Unit {0}
+IsSilent answer = ⊥
+
+-- a status of a text that was read whole
+abbrev pub Serves : Status → Status → Type 0
+Serves status.Memory expected = Unit {0}
+Serves status.WriteFault expected = expected ≡ status.Ok
+Serves status.ReadFault expected = ⊥
+Serves answer expected = expected ≡ answer

@@ -1,0 +1,193 @@
+ghost use Rattle.std.specs.Prelude.{◌≡◌, ◌+◌, ◌<◌, ◌^◌, length, is_some, IfOk, OnOk};
+ghost use Rattle.access_vectors.specs.Phases.{number_of};
+ghost use Rattle.file_manager.specs.Plain.{IsFormed, IsOpening, denial_of};
+ghost use Rattle.flaskd_run.specs.Serial;
+ghost use Rattle.flaskd_run.specs.Desks.{IsSaid};
+ghost use Rattle.flaskd_run.specs.Walking.{decisions_of};
+ghost use Rattle.session_text.specs.declared.session.Run.{Run};
+
+use crate::walking::Walking;
+use access_vectors::Plainly;
+use file_manager::{FileCall, FileCore, FileOpening, FileReply};
+use flask_sid::Memory;
+use manager_history::{Ack, Keeper, NotifyFault, Passes};
+use std::alloc::Global;
+use std::marker::Model;
+
+/// The last policy number that may be made.
+const MOST: u32 = 1_048_575;
+
+/// The file manager's number among the managers of a run.
+const FILES: u8 = 0;
+
+/// A run on one thread: the file manager's keeper, the passes that are held, and the counts of the summary.
+/// Contracts see where the run stands by the definition of what is printed.
+#[derive(Drop)]
+pub struct Desk<'d, 'p> {
+    decider: &'d Walking<'p>,
+    keeper: Keeper<'d, FileCore, Walking<'p>>,
+    passes: Passes,
+    calls: u64,
+    denied: u64,
+    changes: u64,
+}
+
+impl<'d, 'p> Model for Desk<'d, 'p> {
+    ghost use Rattle.std.specs.Prelude.{◌≡◌, ◌≤◌};
+    ghost use Rattle.access_vectors.specs.Phases.{number_of};
+    ghost use Rattle.flaskd_run.specs.Desks.{Standing, AreNamed};
+
+    ghost Value = { Standing };
+
+    ghost view = {
+        λ desk. record {
+            day = record {
+                files = desk.keeper.core.files;
+                phase = desk.keeper.phase;
+                held = desk.passes;
+                calls = desk.calls;
+                denied = desk.denied;
+                changes = desk.changes };
+            policy = desk.decider.now.policy.now }
+    };
+
+    ghost invariant = {
+        λ desk. (desk.keeper.decider ≡ desk.decider.now)
+        × (desk.keeper.manager ≡ 0)
+        × AreNamed desk.keeper.phase desk.passes
+        × (desk.denied ≤ desk.calls)
+        × (number_of desk.keeper.phase ≤ 1048575)
+    };
+}
+
+/// What a client's call got, and the policy number under which it was done.
+#[derive(Debug, Drop)]
+pub struct Acted {
+    pub reply: FileReply,
+    pub number: u32,
+}
+
+impl<'d, 'p> Desk<'d, 'p> {
+    /// The desk before the first line.
+    pub fn new(
+        alloc: Global,
+        decider: &'d Walking<'p>,
+        opening: FileOpening,
+    ) -> Result<Desk<'d, 'p>, Memory>
+        requires opening { IsOpening (decisions_of decider.now.policy.now) opening }
+        requires few { length opening.clients < 256 }
+        ensures { IfOk result (λ desk. desk ≡ record { day = Serial.morning_of opening; policy = decider.now.policy.now }) }
+    {
+        let core = file_manager::new(alloc, opening)?;
+        Ok(Desk {
+            decider,
+            keeper: Keeper::new(alloc, core, FILES, decider),
+            passes: Passes::new(),
+            calls: 0,
+            denied: 0,
+            changes: 0,
+        })
+    }
+
+    /// Does a client's call, under its held pass or else a pass of the newest number.
+    pub fn call(&mut self, alloc: Global, mark: u32, client: u8, call: FileCall) -> Result<Acted, Memory>
+        requires formed { IsFormed self.old.day.files client call }
+        requires client { client < 64 }
+        requires countable { self.old.day.calls + 1 < 2 ^ 64 }
+        ensures reply { IfOk result (λ acted. acted.reply ≡ (Serial.answer_on (decisions_of self.old.policy) self.old.day client call).reply) }
+        ensures number { IfOk result (λ acted. acted.number ≡ Serial.acting_number self.old.day client) }
+        ensures day { OnOk result (self.new.day ≡ Serial.day_after (decisions_of self.old.policy) self.old.day (Run.File client call)) }
+        ensures opening { self.new.day.files.opening ≡ self.old.day.files.opening }
+        ensures policy { self.new.policy ≡ self.old.policy }
+    {
+        let number = self.acting(client);
+        let version = self.keeper.phase().version_at(number);
+        let mut asker = Plainly::new(self.decider, version);
+        let reply = self.keeper.call(alloc, client, mark, call, number, &mut asker)?;
+        self.calls += 1;
+        if is_denied(&reply) {
+            self.denied += 1;
+        }
+        Ok(Acted { reply, number })
+    }
+
+    /// The policy number under which a client acts.
+    pub fn acting(&self, client: u8) -> u32
+        requires { client < 64 }
+        ensures { result ≡ Serial.acting_number self.now.day client }
+    {
+        match self.passes.held(client) {
+            Some(number) => number,
+            None => self.keeper.phase().number(),
+        }
+    }
+
+    /// A client takes a pass of the newest number, and holds it.
+    pub fn begin(&mut self, client: u8)
+        requires { client < 64 }
+        ensures day { self.new.day ≡ Serial.day_after (decisions_of self.old.policy) self.old.day (Run.Begin client) }
+        ensures opening { self.new.day.files.opening ≡ self.old.day.files.opening }
+        ensures policy { self.new.policy ≡ self.old.policy }
+    {
+        if let None = self.passes.held(client) {
+            let number = self.keeper.phase().number();
+            self.passes.enter(client, number);
+        }
+    }
+
+    /// A client gives its held pass back.
+    pub fn end(&mut self, client: u8)
+        requires { client < 64 }
+        ensures day { self.new.day ≡ Serial.day_after (decisions_of self.old.policy) self.old.day (Run.End client) }
+        ensures opening { self.new.day.files.opening ≡ self.old.day.files.opening }
+        ensures policy { self.new.policy ≡ self.old.policy }
+    {
+        if let Some(_number) = self.passes.held(client) {
+            self.passes.leave(client);
+        }
+    }
+
+    /// The administrator chooses a version.
+    pub fn notify(&mut self, alloc: Global, ver: u8) -> Result<u32, NotifyFault>
+        ensures said { IsSaid result (Serial.refusal_of (decisions_of self.old.policy) self.old.day ver) (number_of self.old.day.phase + 1) }
+        ensures day { Serial.IsDayUnlessMemory result self.new.day (Serial.day_after (decisions_of self.old.policy) self.old.day (Run.Notify ver)) }
+        ensures opening { self.new.day.files.opening ≡ self.old.day.files.opening }
+        ensures policy { self.new.policy ≡ self.old.policy }
+    {
+        self.keeper.notify(alloc, ver, MOST)
+    }
+
+    /// The administrator asks whether the change is complete.
+    pub fn acknowledge(&mut self) -> Ack
+        requires { self.old.day.changes + 1 < 2 ^ 64 }
+        ensures answer { result ≡ Serial.ack_on self.old.day }
+        ensures day { self.new.day ≡ Serial.day_after (decisions_of self.old.policy) self.old.day Run.Ack }
+        ensures opening { self.new.day.files.opening ≡ self.old.day.files.opening }
+        ensures policy { self.new.policy ≡ self.old.policy }
+    {
+        let older = self.passes.older(self.keeper.phase().number());
+        let ack = self.keeper.acknowledge(older);
+        if let Ack::Done(_receipt) = &ack {
+            self.changes += 1;
+        }
+        ack
+    }
+
+    /// The counts of the summary: calls, calls denied, changes complete.
+    pub fn counts(&self) -> (u64, u64, u64)
+        ensures calls { result.0 ≡ self.now.day.calls }
+        ensures denied { result.1 ≡ self.now.day.denied }
+        ensures changes { result.2 ≡ self.now.day.changes }
+    {
+        (self.calls, self.denied, self.changes)
+    }
+}
+
+fn is_denied(reply: &FileReply) -> bool
+    ensures { result ≡ is_some (denial_of reply.now) }
+{
+    match reply {
+        FileReply::Denied { .. } => true,
+        _ => false,
+    }
+}

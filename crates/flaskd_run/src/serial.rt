@@ -1,0 +1,280 @@
+//! The lines of a session, run in the text's order on one thread.
+
+ghost use Rattle.std.specs.Prelude.{◌≡◌, ◌+◌, ◌<◌, ◌≤◌, ◌^◌, ◌++◌, [], length, map, All, Err, IfOk, IfErr, OnOk, OnErr};
+ghost use Rattle.flask_io.specs.Streams.{Adds, HasCause};
+ghost use Rattle.file_manager.specs.declared.opening.Node.{Node};
+ghost use Rattle.session_text.specs.Sessions.{IsRun, IsCall};
+ghost use Rattle.session_text.specs.declared.session.Run.{Run};
+ghost use Rattle.session_text.specs.declared.session.ClientLine.{ClientLine};
+ghost use Rattle.flaskd_run.specs.Serial;
+ghost use Rattle.flaskd_run.specs.Walking.{decisions_of};
+ghost use Rattle.flaskd_run.specs.Writing.{AddsFront};
+ghost use Rattle.flaskd_run.specs.declared.serial.RunStop.{RunStop};
+
+use crate::desk::Desk;
+use crate::texts::{put_ack, put_admin, put_client, put_notice, put_reply, put_summary};
+use crate::walking::Walking;
+use crate::writing::{WriteFault, write_line};
+use file_manager::{FileCall, FileOpening, Node};
+use flask_io::Sink;
+use flask_sid::{Memory, Piece, Rows, Sid};
+use manager_history::NotifyFault;
+use session_text::{ClientLine, Run, RunLine, Session, SessionParts};
+use std::alloc::Global;
+
+/// Why a run stopped before its text was written.
+#[derive(Clone, Copy, Debug, PartialEq, Eq)]
+pub enum RunStop {
+    /// The sink failed, and its count of faults rose.
+    WriteFault,
+    Memory,
+}
+
+impl From<Memory> for RunStop {
+    fn from(_: Memory) -> Self {
+        RunStop::Memory
+    }
+}
+
+/// What the file manager is opened with: a client acts as its context, and the root has the first context.
+fn opening_of(alloc: Global, nodes: Rows<Node>, clients: &[ClientLine]) -> Result<FileOpening, Memory>
+    ensures { IfOk result (λ opening. opening
+        ≡ record { clients = map (λ (client : ClientLine). client.sid) clients.now; root = 1; nodes = nodes }) }
+{
+    let sids = sids_of(alloc, clients)?;
+    Ok(FileOpening {
+        clients: sids,
+        root: first_sid(),
+        nodes,
+    })
+}
+
+fn first_sid() -> Sid
+    ensures { result ≡ 1 }
+{
+    Sid::of(1).unwrap()
+}
+
+fn sids_of(alloc: Global, clients: &[ClientLine]) -> Result<Rows<Sid>, Memory>
+    ensures { IfOk result (λ sids. sids ≡ map (λ (client : ClientLine). client.sid) clients.now) }
+{
+    let sids: Vec<Sid> = clients.iter().map(|client| client.sid).collect(alloc)?;
+    Ok(Rows::from_vec(sids))
+}
+
+/// The name of a client.
+fn name_of(clients: &[ClientLine], client: u8) -> &[u8]
+    ensures { result.now ≡ Serial.name_of clients.now client }
+{
+    match clients.get(usize::from(client)) {
+        None => &[],
+        Some(line) => line.name.as_bytes(),
+    }
+}
+
+/// Runs a client's call, and puts its line.
+fn call_line(
+    alloc: Global,
+    desk: &mut Desk<'_, '_>,
+    clients: &[ClientLine],
+    line: u32,
+    client: u8,
+    call: FileCall,
+    out: &mut Piece,
+) -> Result<(), Memory>
+    requires out { out.old ≡ [] }
+    requires client { client < length clients.now }
+    requires few { length clients.now ≤ 62 }
+    requires opening { length desk.old.day.files.opening.clients ≡ length clients.now }
+    requires formed { IsCall call }
+    requires countable { desk.old.day.calls + 1 < 2 ^ 64 }
+    ensures text { OnOk result (out.new ≡ Serial.line_text (decisions_of desk.old.policy) clients.now desk.old.day line (Run.File client call)) }
+    ensures day { OnOk result (desk.new.day ≡ Serial.day_after (decisions_of desk.old.policy) desk.old.day (Run.File client call)) }
+    ensures opening { desk.new.day.files.opening ≡ desk.old.day.files.opening }
+    ensures policy { desk.new.policy ≡ desk.old.policy }
+{
+    let acted = desk.call(alloc, line, client, call)?;
+    put_client(out, line, name_of(clients, client), acted.number)?;
+    put_reply(out, &acted.reply)?;
+    out.extend(b"\n")
+}
+
+/// Runs a `begin` line, and puts it.
+fn begin_line(
+    desk: &mut Desk<'_, '_>,
+    clients: &[ClientLine],
+    line: u32,
+    client: u8,
+    out: &mut Piece,
+) -> Result<(), Memory>
+    requires out { out.old ≡ [] }
+    requires client { client < length clients.now }
+    requires few { length clients.now ≤ 62 }
+    ensures text { OnOk result (out.new ≡ Serial.line_text (decisions_of desk.old.policy) clients.now desk.old.day line (Run.Begin client)) }
+    ensures day { OnOk result (desk.new.day ≡ Serial.day_after (decisions_of desk.old.policy) desk.old.day (Run.Begin client)) }
+    ensures opening { desk.new.day.files.opening ≡ desk.old.day.files.opening }
+    ensures policy { desk.new.policy ≡ desk.old.policy }
+{
+    let number = desk.acting(client);
+    desk.begin(client);
+    put_client(out, line, name_of(clients, client), number)?;
+    out.extend(b"begun\n")
+}
+
+/// Runs an `end` line, and puts it.
+fn end_line(
+    desk: &mut Desk<'_, '_>,
+    clients: &[ClientLine],
+    line: u32,
+    client: u8,
+    out: &mut Piece,
+) -> Result<(), Memory>
+    requires out { out.old ≡ [] }
+    requires client { client < length clients.now }
+    requires few { length clients.now ≤ 62 }
+    ensures text { OnOk result (out.new ≡ Serial.line_text (decisions_of desk.old.policy) clients.now desk.old.day line (Run.End client)) }
+    ensures day { OnOk result (desk.new.day ≡ Serial.day_after (decisions_of desk.old.policy) desk.old.day (Run.End client)) }
+    ensures opening { desk.new.day.files.opening ≡ desk.old.day.files.opening }
+    ensures policy { desk.new.policy ≡ desk.old.policy }
+{
+    let number = desk.acting(client);
+    desk.end(client);
+    put_client(out, line, name_of(clients, client), number)?;
+    out.extend(b"ended\n")
+}
+
+/// Runs a `notify` line, and puts it.
+fn notify_line(
+    alloc: Global,
+    desk: &mut Desk<'_, '_>,
+    clients: &[ClientLine],
+    line: u32,
+    ver: u8,
+    out: &mut Piece,
+) -> Result<(), Memory>
+    requires out { out.old ≡ [] }
+    ensures text { OnOk result (out.new ≡ Serial.line_text (decisions_of desk.old.policy) clients.now desk.old.day line (Run.Notify ver)) }
+    ensures day { OnOk result (desk.new.day ≡ Serial.day_after (decisions_of desk.old.policy) desk.old.day (Run.Notify ver)) }
+    ensures opening { desk.new.day.files.opening ≡ desk.old.day.files.opening }
+    ensures policy { desk.new.policy ≡ desk.old.policy }
+{
+    let said = desk.notify(alloc, ver);
+    if let Err(NotifyFault::Memory) = &said {
+        return Err(Memory);
+    }
+    put_admin(out, line)?;
+    put_notice(out, &said)?;
+    out.extend(b"\n")
+}
+
+/// Runs an `ack` line, and puts it.
+fn ack_line(
+    desk: &mut Desk<'_, '_>,
+    clients: &[ClientLine],
+    line: u32,
+    out: &mut Piece,
+) -> Result<(), Memory>
+    requires out { out.old ≡ [] }
+    requires countable { desk.old.day.changes + 1 < 2 ^ 64 }
+    ensures text { OnOk result (out.new ≡ Serial.line_text (decisions_of desk.old.policy) clients.now desk.old.day line Run.Ack) }
+    ensures day { OnOk result (desk.new.day ≡ Serial.day_after (decisions_of desk.old.policy) desk.old.day Run.Ack) }
+    ensures opening { desk.new.day.files.opening ≡ desk.old.day.files.opening }
+    ensures policy { desk.new.policy ≡ desk.old.policy }
+{
+    let ack = desk.acknowledge();
+    put_admin(out, line)?;
+    put_ack(out, &ack)?;
+    out.extend(b"\n")
+}
+
+/// Runs a line, and puts what it prints.
+fn run_line(
+    alloc: Global,
+    desk: &mut Desk<'_, '_>,
+    clients: &[ClientLine],
+    line: RunLine,
+    out: &mut Piece,
+) -> Result<(), Memory>
+    requires out { out.old ≡ [] }
+    requires formed { IsRun (length clients.now) line.run }
+    requires few { length clients.now ≤ 62 }
+    requires opening { length desk.old.day.files.opening.clients ≡ length clients.now }
+    requires calls { desk.old.day.calls + 1 < 2 ^ 64 }
+    requires changes { desk.old.day.changes + 1 < 2 ^ 64 }
+    ensures text { OnOk result (out.new ≡ Serial.line_text (decisions_of desk.old.policy) clients.now desk.old.day line.line line.run) }
+    ensures day { OnOk result (desk.new.day ≡ Serial.day_after (decisions_of desk.old.policy) desk.old.day line.run) }
+    ensures opening { desk.new.day.files.opening ≡ desk.old.day.files.opening }
+    ensures policy { desk.new.policy ≡ desk.old.policy }
+{
+    let RunLine { line, run } = line;
+    match run {
+        Run::File { client, call } => call_line(alloc, desk, clients, line, client, call, out),
+        Run::Begin { client } => begin_line(desk, clients, line, client, out),
+        Run::End { client } => end_line(desk, clients, line, client, out),
+        Run::Notify { ver } => notify_line(alloc, desk, clients, line, ver, out),
+        Run::Ack => ack_line(desk, clients, line, out),
+    }
+}
+
+/// Runs all lines and writes what they print, each line in a write of its own, and then the summary.
+fn run_lines<K: Sink>(
+    alloc: Global,
+    desk: &mut Desk<'_, '_>,
+    clients: &[ClientLine],
+    lines: Vec<RunLine>,
+    sink: &mut K,
+) -> Result<(), RunStop>
+    requires formed { All (λ line. IsRun (length clients.now) line.run) lines.items }
+    requires few { length clients.now ≤ 62 }
+    requires opening { length desk.old.day.files.opening.clients ≡ length clients.now }
+    requires calls { desk.old.day.calls ≡ 0 }
+    requires changes { desk.old.day.changes ≡ 0 }
+    ensures ok { OnOk result (Adds (K.written sink.old) (K.written sink.new)
+        (Serial.lines_text (decisions_of desk.old.policy) clients.now desk.old.day lines.items)) }
+    ensures err { OnErr result (AddsFront (K.written sink.old) (K.written sink.new)
+        (Serial.lines_text (decisions_of desk.old.policy) clients.now desk.old.day lines.items)) }
+    ensures cause { HasCause (K.faults sink.old) (K.faults sink.new) (result ≡ Err RunStop.WriteFault) }
+{
+    let mut out = Piece::new(alloc);
+    'lines: for line in lines {
+        out.clear();
+        run_line(alloc, desk, clients, line, &mut out)?;
+        put_line(sink, &out)?;
+    }
+    out.clear();
+    let (calls, denied, changes) = desk.counts();
+    put_summary(&mut out, calls, denied, changes)?;
+    put_line(sink, &out)
+}
+
+/// Writes a line that was put together.
+fn put_line<K: Sink>(sink: &mut K, out: &Piece) -> Result<(), RunStop>
+    ensures ok { OnOk result (Adds (K.written sink.old) (K.written sink.new) out.now) }
+    ensures err { OnErr result (AddsFront (K.written sink.old) (K.written sink.new) out.now) }
+    ensures why { IfErr result (λ stop. stop ≡ RunStop.WriteFault) }
+    ensures cause { HasCause (K.faults sink.old) (K.faults sink.new) (result ≡ Err RunStop.WriteFault) }
+{
+    match write_line(sink, out.as_bytes()) {
+        Ok(()) => Ok(()),
+        Err(WriteFault) => Err(RunStop::WriteFault),
+    }
+}
+
+/// Runs a session and writes its text. Where it stops before, a front of the text was written.
+#[tactic(auto, unfolding(crate::specs::Serial::serial_text))]
+pub fn serial<K: Sink>(alloc: Global, session: Session, sink: &mut K) -> Result<(), RunStop>
+    ensures ok { OnOk result (Adds (K.written sink.old) (K.written sink.new) (Serial.serial_text session)) }
+    ensures err { OnErr result (AddsFront (K.written sink.old) (K.written sink.new) (Serial.serial_text session)) }
+    ensures cause { HasCause (K.faults sink.old) (K.faults sink.new) (result ≡ Err RunStop.WriteFault) }
+{
+    let SessionParts {
+        policy,
+        nodes,
+        clients,
+        lines,
+    } = session.into_parts();
+    let opening = opening_of(alloc, nodes, clients.as_slice())?;
+    let decider = Walking::new(&policy);
+    let mut desk = Desk::new(alloc, &decider, opening)?;
+    run_lines(alloc, &mut desk, clients.as_slice(), lines.into_vec(), sink)
+}
