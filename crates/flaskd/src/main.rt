@@ -16,7 +16,14 @@ fn main(rt: HostRuntime) -> io::Result<ExitCode> {
     }
     let mut source = ReaderSource::new(rt.stdin());
     let mut sink = WriterSink::new(rt.stdout());
-    let status = flaskd(&rt, alloc, words.as_slice(), &mut source, &mut sink, &NoStops);
+    let status = flaskd(
+        &rt,
+        alloc,
+        words.as_slice(),
+        &mut source,
+        &mut sink,
+        &NoStops,
+    );
     if status != Status::Ok {
         let text = status_text(alloc, &status)?;
         eprintln!(rt; "{text}")?;

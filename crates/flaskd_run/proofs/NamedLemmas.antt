@@ -59,6 +59,6 @@ all_acknowledged pending old new (one ∷ held) none named =
 pub acting_named : (phase : Phase) (held : List (Option ℕ)) (client : ℕ) → AreNamed phase held → MayName phase (unwrap_or (pass_of held client) (number_of phase))
 acting_named phase held client named =
     elim (pass_of held client) as (λ one. IsNamed phase one → MayName phase (unwrap_or one (number_of phase))) [
-      None ↦ λ is. newest_named phase
-    | Some number ↦ λ is. is
+      | None ↦ λ is. newest_named phase
+      | Some number ↦ λ is. is
     ] (named_at phase held client named)

@@ -30,11 +30,11 @@ pub record KeepsPhase (versions : ℕ) (phase : Phase) (held : List (Option ℕ)
 allowed_notice : (versions settled old version : ℕ) → notice_fault (Settled settled old) versions version 1048575 ≡ None → (version < versions) × (settled ≢ 1048575)
 allowed_notice versions settled old version =
     elim (nat_lt version versions) as (λ (b : Bool). nat_lt version versions ≡ b → (if b then (if settled == 1048575 then Some faults.Spent else None) else Some faults.NoVersion) ≡ None → (version < versions) × (settled ≢ 1048575)) [
-      true ↦ λ is. elim (settled == 1048575) as (λ (b : Bool). (settled == 1048575) ≡ b → (if b then Some faults.Spent else None) ≡ None → (version < versions) × (settled ≢ 1048575)) [
-          true ↦ λ same e. cc
+      | true ↦ λ is. elim (settled == 1048575) as (λ (b : Bool). (settled == 1048575) ≡ b → (if b then Some faults.Spent else None) ≡ None → (version < versions) × (settled ≢ 1048575)) [
+        | true ↦ λ same e. cc
         | false ↦ λ apart e. (grind (arith, nat_tests), grind (arith, nat_tests))
-        ] refl
-    | false ↦ λ is e. cc
+      ] refl
+      | false ↦ λ is e. cc
     ] refl
 
 -- after a notice
@@ -46,7 +46,7 @@ noticed_keeps (Ok number) versions (Settled settled old) next held version keeps
     rw at (record {
       named = all_noticed settled old number version held is keeps.named;
       few = omega (arith, may.1, keeps.few);
-      versions_below = (omega arith, keeps.versions_below, may.0)
+      versions_below = (omega arith, keeps.versions_below, may.0);
     })
 
 -- after an acknowledgement
@@ -55,15 +55,15 @@ acknowledged_keeps ack versions (Settled settled version) next held manager olde
     rw (undone (ap is_done answer)) keeps
 acknowledged_keeps ack versions (Pending pending old new) next held manager older stale keeps answer count done undone =
     elim (nat_lt 0 older) as (λ (b : Bool). nat_lt 0 older ≡ b → ack ≡ (if b then acks.Busy older else (if nat_lt 0 stale then acks.Behind stale else acks.Done (record { manager = manager; number = pending }))) → KeepsPhase versions next held) [
-      true ↦ λ is e. rw (undone (ap is_done e)) keeps
-    | false ↦ λ is. elim (nat_lt 0 stale) as (λ (b : Bool). ack ≡ (if b then acks.Behind stale else acks.Done (record { manager = manager; number = pending })) → KeepsPhase versions next held) [
-          true ↦ λ e. rw (undone (ap is_done e)) keeps
+      | true ↦ λ is e. rw (undone (ap is_done e)) keeps
+      | false ↦ λ is. elim (nat_lt 0 stale) as (λ (b : Bool). ack ≡ (if b then acks.Behind stale else acks.Done (record { manager = manager; number = pending })) → KeepsPhase versions next held) [
+        | true ↦ λ e. rw (undone (ap is_done e)) keeps
         | false ↦ λ e.
             let none : older_count pending held ≡ 0 = grind (arith, nat_tests) in
             rw (done (ap is_done e)) (record {
               named = all_acknowledged pending old new held none keeps.named;
               few = keeps.few;
-              versions_below = keeps.versions_below.2
+              versions_below = keeps.versions_below.2;
             })
-        ]
+      ]
     ] refl answer

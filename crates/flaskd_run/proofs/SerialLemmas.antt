@@ -80,10 +80,11 @@ sid_known contexts sid is = grind (arith, nat_tests)
 
 pub opening_known : (session : SessionParts) → IsSession session → 0 < length session.policy.contexts → IsOpening (decisions_of session.policy) (opening_of session)
 unfolding decisions_of
-opening_known session is some =
-    (All-map (λ sid. IsTrue (nat_lt 0 sid && nat_le sid (length session.policy.contexts))) (λ (client : ClientLine). client.sid) session.clients (λ k d within. sid_known session.policy.contexts _ (is.clients k d within)),
-      sid_known session.policy.contexts 1 (omega arith, omega arith),
-      λ k d within. sid_known session.policy.contexts _ (is.nodes k d within))
+opening_known session is some = (
+  All-map (λ sid. IsTrue (nat_lt 0 sid && nat_le sid (length session.policy.contexts))) (λ (client : ClientLine). client.sid) session.clients (λ k d within. sid_known session.policy.contexts _ (is.clients k d within)),
+  sid_known session.policy.contexts 1 (omega arith, omega arith),
+  λ k d within. sid_known session.policy.contexts _ (is.nodes k d within),
+)
 
 -- a line was written whole, with which all is
 pub all_written : (before now later : Option (List ℕ)) (whole part : List ℕ) → IsOffered before now whole part → Adds now later part → Adds before later whole
@@ -91,14 +92,16 @@ all_written before now later whole part offered added = rw offered.1 (adds_more 
 
 -- of the last line a front was written
 pub last_failed : (before now later : Option (List ℕ)) (whole part : List ℕ) → IsOffered before now whole part → AddsFront now later part → AddsFront before later whole
-last_failed before now later whole part offered added =
-    (offered.0 ++ added.0, added.1,
-      offered.1 ∙ ap (λ p. offered.0 ++ p) added.2 ∙ sym (append_assoc offered.0 added.0 added.1),
-      adds_more before now later offered.0 added.0 offered.2 added.3)
+last_failed before now later whole part offered added = (
+  offered.0 ++ added.0,
+  added.1,
+  offered.1 ∙ ap (λ p. offered.0 ++ p) added.2 ∙ sym (append_assoc offered.0 added.0 added.1),
+  adds_more before now later offered.0 added.0 offered.2 added.3,
+)
 
 -- what the lines print from a desk that was set up with a session's opening and policy
 pub run_text : (session parts : SessionParts) (opening : FileOpening) (policy : PolicyParts) (desk : Standing) (clients : List ClientLine) (items : List RunLine) → parts ≡ session → opening ≡ opening_of parts → policy ≡ parts.policy → desk ≡ record { day = morning_of opening; policy = policy } → clients ≡ parts.clients → items ≡ parts.lines → lines_text (decisions_of desk.policy) clients desk.day items ≡ serial_text session
 unfolding serial_text
 run_text session parts opening policy desk clients items parts_is opening_is policy_is desk_is clients_is items_is =
     rw (desk_is, clients_is, items_is, opening_is, policy_is)
-      (ap (λ (s : SessionParts). lines_text (decisions_of s.policy) s.clients (morning s) s.lines) parts_is)
+    (ap (λ (s : SessionParts). lines_text (decisions_of s.policy) s.clients (morning s) s.lines) parts_is)

@@ -53,5 +53,5 @@ served_ran said words before after put now bytes command small takes at_end serv
       takes = takes;
       answers = rw (command, small) (answers_of said _ serves);
       whole = whole_of said after at_end;
-      puts = rw (command, small) puts
+      puts = rw (command, small) puts;
     }

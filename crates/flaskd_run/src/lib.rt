@@ -6,7 +6,6 @@ mod reading;
 mod said;
 mod serial;
 mod status;
-
 mod stops;
 mod texts;
 mod top;
@@ -14,7 +13,7 @@ mod walking;
 mod writing;
 
 pub use reading::INPUT_LIMIT;
-pub use status::Status;
 pub use said::status_text;
+pub use status::Status;
 pub use stops::{NoStops, Stops};
 pub use top::flaskd;

@@ -18,14 +18,14 @@ lines-preserved g c =
     let behind : length (into_iter_items c.lines.line-iterator) ≡ length (into_iter_items c.next.new.self) + 1 = ap length step.0 ∙ omega arith in
     record {
       written = line_written c.args.desk.now.policy c.lines.desk.policy c.args.clients.now c.lines.desk.day c.run_line.new.desk.day c.in-Some.line (into_iter_items c.next.new.self) (into_iter_items c.lines.line-iterator) _ _ _ _ c.run_line.new.out
-        kept.written step.0 kept.policy ran.text ran.day c.in_ok-put_line.ensures.ok;
+          kept.written step.0 kept.policy ran.text ran.day c.in_ok-put_line.ensures.ok;
       later = omega (arith, kept.later, c.put_line.ensures.cause.later);
       policy = ran.policy ∙ kept.policy;
       opening = ap (λ o. length o.clients) ran.opening ∙ kept.opening;
       formed = all_behind (λ (line : RunLine). IsRun (length c.args.clients.now) line.run) _ _ c.in-Some.line step.0 kept.formed;
       left = omega (arith, step.1, kept.left, behind);
       calls = omega (arith, kept.calls, behind, rw (← ran.day) at (calls_after (decisions_of c.lines.desk.policy) c.lines.desk.day c.in-Some.line.run));
-      changes = omega (arith, kept.changes, behind, rw (← ran.day) at (changes_after (decisions_of c.lines.desk.policy) c.lines.desk.day c.in-Some.line.run))
+      changes = omega (arith, kept.changes, behind, rw (← ran.day) at (changes_after (decisions_of c.lines.desk.policy) c.lines.desk.day c.in-Some.line.run));
     }
 
 pub returns-in_err-put_line-clause-err : goal.returns-in_err-put_line-clause-err
@@ -34,8 +34,8 @@ returns-in_err-put_line-clause-err g c =
     let step = c.in-Some.ensures.steps in
     let ran = c.in_ok-run_line.ensures in
     on_err_always _ _
-      (line_failed c.args.desk.now.policy c.lines.desk.policy c.args.clients.now c.lines.desk.day c.in-Some.line (into_iter_items c.next.new.self) (into_iter_items c.lines.line-iterator) _ _ _ _ c.run_line.new.out
-        kept.written step.0 kept.policy ran.text c.in_err-put_line.ensures.err)
+    (line_failed c.args.desk.now.policy c.lines.desk.policy c.args.clients.now c.lines.desk.day c.in-Some.line (into_iter_items c.next.new.self) (into_iter_items c.lines.line-iterator) _ _ _ _ c.run_line.new.out
+    kept.written step.0 kept.policy ran.text c.in_err-put_line.ensures.err)
 
 pub returns-clause-ok : goal.returns-clause-ok
 returns-clause-ok g c =
@@ -44,9 +44,9 @@ returns-clause-ok g c =
     let offered = rw none at kept.written in
     let day = c.lines.desk.day in
     let out_is : c.put_summary.new.out ≡ summary_text day.calls day.denied day.changes =
-      rw (c.clear-2.ensures, c.counts-calls.ensures.calls, c.counts-calls.ensures.denied, c.counts-calls.ensures.changes) at c.in_ok-put_summary.ensures in
+    rw (c.clear-2.ensures, c.counts-calls.ensures.calls, c.counts-calls.ensures.denied, c.counts-calls.ensures.changes) at c.in_ok-put_summary.ensures in
     on_ok c.put_line-2.result (Adds (g.K.Sink.written c.lines.sink) (g.K.Sink.written c.put_line-2.new.sink) c.put_summary.new.out) _
-      (λ added. all_written _ _ _ _ _ offered (rw out_is at added)) c.put_line-2.ensures.ok
+    (λ added. all_written _ _ _ _ _ offered (rw out_is at added)) c.put_line-2.ensures.ok
 
 pub returns-clause-err : goal.returns-clause-err
 returns-clause-err g c =
@@ -55,6 +55,6 @@ returns-clause-err g c =
     let offered = rw none at kept.written in
     let day = c.lines.desk.day in
     let out_is : c.put_summary.new.out ≡ summary_text day.calls day.denied day.changes =
-      rw (c.clear-2.ensures, c.counts-calls.ensures.calls, c.counts-calls.ensures.denied, c.counts-calls.ensures.changes) at c.in_ok-put_summary.ensures in
+    rw (c.clear-2.ensures, c.counts-calls.ensures.calls, c.counts-calls.ensures.denied, c.counts-calls.ensures.changes) at c.in_ok-put_summary.ensures in
     on_err c.put_line-2.result (AddsFront (g.K.Sink.written c.lines.sink) (g.K.Sink.written c.put_line-2.new.sink) c.put_summary.new.out) _
-      (λ added. last_failed _ _ _ _ _ offered (rw out_is at added)) c.put_line-2.ensures.err
+    (λ added. last_failed _ _ _ _ _ offered (rw out_is at added)) c.put_line-2.ensures.err

@@ -9,5 +9,5 @@ invariant_of-self c =
     let kept = c.self.invariant in
     let told = c.notify.ensures in
     let keeps = noticed_keeps c.notify.result (length c.self.inside.decider.now.policy.now.versions) c.self.inside.keeper.phase c.notify.new.self.phase c.self.inside.passes c.args.ver
-      (record { named = kept.2; few = kept.4; versions_below = kept.5 }) told.phase told.number (rw kept.0 at told.allowed) told.phase_after_refusal in
+    (record { named = kept.2; few = kept.4; versions_below = kept.5 }) told.phase told.number (rw kept.0 at told.allowed) told.phase_after_refusal in
     (told.decider ∙ kept.0, told.manager ∙ kept.1, keeps.named, kept.3, keeps.few, keeps.versions_below)
