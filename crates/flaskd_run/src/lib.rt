@@ -17,3 +17,6 @@ pub use said::status_text;
 pub use status::Status;
 pub use stops::{NoStops, Stops};
 pub use top::flaskd;
+
+#[cfg(test)]
+mod tests;
