@@ -130,9 +130,11 @@ module _ {E : Type 0} (kind : E → Kind) where
       → Alternates kind versions a p.0 (log ++ e ∷ [])
   alternates_from versions a p [] e h may = (may, tt)
   alternates_from versions a p (x ∷ xs) e h may =
-      let same = newest_apart p (kind x) in
-      (h.0, subst (λ (c : ℕ). Alternates kind versions (settled a (kind x)) c (xs ++ e ∷ [])) (sym same)
-        (alternates_from versions (settled a (kind x)) (noticed p (kind x)) xs e (subst (λ (c : ℕ). Alternates kind versions (settled a (kind x)) c xs) same h.1) may))
+      let same = newest_apart p (kind x) in (
+        h.0,
+        subst (λ (c : ℕ). Alternates kind versions (settled a (kind x)) c (xs ++ e ∷ [])) (sym same)
+            (alternates_from versions (settled a (kind x)) (noticed p (kind x)) xs e (subst (λ (c : ℕ). Alternates kind versions (settled a (kind x)) c xs) same h.1) may),
+      )
 
   -- one more entry that may come
   pub alternates_more : (versions : ℕ) (log : List E) (e : E) → Alternates kind versions 0 0 log → MayCome versions (settled_in kind log) (last_notice kind log).0 (kind e) → Alternates kind versions 0 0 (log ++ e ∷ [])
