@@ -1,5 +1,5 @@
 -- What the program answers.
-use Rattle.std.specs.Prelude.{◌≡◌, ℕ, Bool, true, false, not, nat_lt, List, [], ◌∷◌, ◌++◌, length, Option, IfSome, Result, Ok, Err, if◌then◌else◌, codes}
+use Rattle.std.specs.Prelude.{◌≡◌, ◌≤◌, ◌⊎◌, ℕ, Bool, true, false, not, nat_lt, List, [], ◌∷◌, ◌++◌, length, Option, IfSome, Result, Ok, Err, if◌then◌else◌, codes}
 use Rattle.std.specs.Str.{bytes_eq}
 use Rattle.flask_io.specs.Streams.{Takes, Adds}
 use Rattle.text_lines.specs.ResultSteps.{LineFault}
@@ -57,20 +57,23 @@ IsWhole (status.BadText line kind) left = IsEnd left
 IsWhole status.WriteFault left = IsEnd left
 IsWhole answer left = Unit {0}
 
--- Ok wrote the whole text, a fault of the sink or want of memory a front of it, and every other status nothing
-abbrev pub Puts : Status → Option (List ℕ) → Option (List ℕ) → List ℕ → Type 0
-Puts status.Ok before now text = Adds before now text
-Puts status.WriteFault before now text = AddsFront before now text
-Puts status.Memory before now text = AddsFront before now text
-Puts answer before now text = now ≡ before
+-- Ok wrote the whole text, a fault of the sink a front of it, and every other status nothing; but want of memory comes also
+-- once the source was read to its end, and then a front of the text was written
+abbrev pub Puts : Status → Option (List ℕ) → Option (List ℕ) → Option (List ℕ) → List ℕ → Type 0
+Puts status.Ok left before now text = Adds before now text
+Puts status.WriteFault left before now text = AddsFront before now text
+Puts status.Memory left before now text = (now ≡ before) ⊎ (IsEnd left × AddsFront before now text)
+Puts answer left before now text = now ≡ before
 
--- how a run goes: of the bytes that it took from the source, status and text are the stated functions
+-- how a run goes: it took at most one byte past the limit from the source, and of the bytes that it took status and text
+-- are the stated functions
 pub record Ran (status : Status) (words : List (List ℕ)) (left_before left_after put_before put_after : Option (List ℕ)) : Type 0 where
   pub taken : List ℕ
   pub takes : Takes left_before left_after taken
+  pub bounded : length taken ≤ 4194305
   pub answers : Answers status (expected_of words taken)
   pub whole : IsWhole status left_after
-  pub puts : Puts status put_before put_after (answer_of words taken)
+  pub puts : Puts status left_after put_before put_after (answer_of words taken)
 
 -- the exit code of a status
 abbrev pub code_of : Status → ℕ
@@ -89,6 +92,13 @@ IsSilent (status.BadText line kind) = Unit {0}
 IsSilent status.ReadFault = Unit {0}
 IsSilent status.TooLarge = Unit {0}
 IsSilent answer = ⊥
+
+-- what a text that was read whole wrote
+abbrev pub PutsWhole : Status → Option (List ℕ) → Option (List ℕ) → List ℕ → Type 0
+PutsWhole status.Ok before now text = Adds before now text
+PutsWhole status.WriteFault before now text = AddsFront before now text
+PutsWhole status.Memory before now text = AddsFront before now text
+PutsWhole answer before now text = now ≡ before
 
 -- a status of a text that was read whole
 abbrev pub Serves : Status → Status → Type 0

@@ -22,6 +22,7 @@ pub enum ReadStop {
 pub fn read_all<S: Source>(source: &mut S, bytes: &mut Vec<u8>) -> Result<(), ReadStop>
     requires { bytes.old.items ≡ [] }
     ensures takes { Takes (S.left source.old) (S.left source.new) bytes.new.items }
+    ensures bounded { vec_len bytes.new ≤ 4194305 }
     ensures whole { OnOk result (vec_len bytes.new ≤ INPUT_LIMIT → IsEnd (S.left source.new)) }
     ensures cause { HasCause (S.faults source.old) (S.faults source.new) (result ≡ Err ReadStop.Fault) }
 {
@@ -37,6 +38,7 @@ pub fn read_all<S: Source>(source: &mut S, bytes: &mut Vec<u8>) -> Result<(), Re
 fn read_more<S: Source>(source: &mut S, bytes: &mut Vec<u8>) -> Result<bool, ReadStop>
     requires { vec_len bytes.old ≤ INPUT_LIMIT }
     ensures takes { TakesOn (S.left source.old) (S.left source.new) bytes.old.items bytes.new.items }
+    ensures bounded { vec_len bytes.new ≤ 4194305 }
     ensures more { IfOk result (λ some. IsMore some (vec_len bytes.old) (vec_len bytes.new) (S.left source.new)) }
     ensures cause { HasCause (S.faults source.old) (S.faults source.new) (result ≡ Err ReadStop.Fault) }
 {

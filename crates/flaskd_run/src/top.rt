@@ -28,7 +28,7 @@ pub fn flaskd<R: Threads + Wait, S: Source, K: Sink, G: Stops>(
 ) -> Status
     // Exactly where the words are no command; the source is not read then.
     ensures usage { (result ≡ Status.Usage) ↔ (IsTrue (not (Top.is_command words.now))) }
-    ensures unread { result ≡ Status.Usage → S.left source.new ≡ S.left source.old }
+    ensures unread { result ≡ Status.Usage → source.new ≡ source.old }
 
     // Of the bytes that were taken from the source, status and text are the stated functions.
     ensures ran { Top.Ran result words.now (S.left source.old) (S.left source.new) (K.written sink.old) (K.written sink.new) }
@@ -36,7 +36,7 @@ pub fn flaskd<R: Threads + Wait, S: Source, K: Sink, G: Stops>(
     // A fault comes only from its own cause.
     ensures read_fault { HasCause (S.faults source.old) (S.faults source.new) (result ≡ Status.ReadFault) }
     ensures write_fault { HasCause (K.faults sink.old) (K.faults sink.new) (result ≡ Status.WriteFault) }
-    ensures silent { Top.IsSilent result → K.written sink.new ≡ K.written sink.old }
+    ensures silent { Top.IsSilent result → sink.new ≡ sink.old }
 {
     if !is_command(words) {
         return Status::Usage;
@@ -57,7 +57,8 @@ pub fn flaskd<R: Threads + Wait, S: Source, K: Sink, G: Stops>(
 /// Reads the bytes as a session, runs it and writes its text.
 fn serve<K: Sink>(alloc: Global, bytes: &[u8], sink: &mut K) -> Status
     ensures answers { Top.Serves result (Top.status_of (session_of bytes.now)) }
-    ensures puts { Top.Puts result (K.written sink.old) (K.written sink.new) (Top.printed (session_of bytes.now)) }
+    ensures puts { Top.PutsWhole result (K.written sink.old) (K.written sink.new) (Top.printed (session_of bytes.now)) }
+    ensures silent { Top.IsSilent result → sink.new ≡ sink.old }
     ensures cause { HasCause (K.faults sink.old) (K.faults sink.new) (result ≡ Status.WriteFault) }
 {
     match read(alloc, bytes) {

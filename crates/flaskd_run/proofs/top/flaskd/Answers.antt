@@ -11,11 +11,11 @@ pub returns-then-len-gt-INPUT_LIMIT-clause-ran : goal.returns-then-len-gt-INPUT_
 returns-then-len-gt-INPUT_LIMIT-clause-ran g c =
     let bytes = c.read_all.new.bytes.items in
     let large : is_large bytes ≡ true = grind (arith, nat_tests) in
-    large_ran c.args.words.now _ _ _ bytes (sym c.is_command.ensures ∙ c.if-not-is_command.false) large c.in-Ok.ensures.takes
+    large_ran c.args.words.now _ _ _ bytes (sym c.is_command.ensures ∙ c.if-not-is_command.false) large c.in-Ok.ensures.takes (omega (arith, c.in-Ok.ensures.bounded))
 
 pub returns-clause-ran : goal.returns-clause-ran
 returns-clause-ran g c =
     let bytes = c.read_all.new.bytes.items in
     let small : is_large bytes ≡ false = grind (arith, nat_tests) in
-    served_ran c.serve.result c.args.words.now _ _ _ _ bytes (sym c.is_command.ensures ∙ c.if-not-is_command.false) small c.in-Ok.ensures.takes
+    served_ran c.serve.result c.args.words.now _ _ _ _ bytes (sym c.is_command.ensures ∙ c.if-not-is_command.false) small c.in-Ok.ensures.takes (omega (arith, c.in-Ok.ensures.bounded))
     (c.in-Ok.ensures.whole (omega arith)) (rw c.as_slice.ensures.value at c.serve.ensures.answers) (rw c.as_slice.ensures.value at c.serve.ensures.puts)
