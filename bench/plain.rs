@@ -1,7 +1,8 @@
 //! The same work as the proved program of this folder, as a Rust programmer writes it: a gate word and two leave
 //! counters, two ticket words, 512 cache rows in one table, and a boxed value that the holder of the turn takes out.
 //!
-//! `plain WORK THREADS ROUNDS` prints the nanoseconds that all took together, and the sum of what was found.
+//! `plain WORK THREADS ROUNDS` prints the nanoseconds from the first thread's beginning to the last one's end, those of
+//! all processors together, and a sum that tells the work was done.
 use std::cell::{Cell, UnsafeCell};
 use std::sync::atomic::{AtomicU64, Ordering::SeqCst};
 use std::time::Instant;
@@ -163,6 +164,34 @@ fn turns(gate: &Gate, rounds: u32) -> u64 {
     sum
 }
 
+#[repr(C)]
+struct Timespec {
+    seconds: i64,
+    nanos: i64,
+}
+
+unsafe extern "C" {
+    fn clock_gettime(clock: i32, time: *mut Timespec) -> i32;
+}
+
+/// The processor time of this thread, in nanoseconds.
+fn thread_time() -> u64 {
+    const THREAD_CPUTIME: i32 = 3;
+    let mut time = Timespec {
+        seconds: 0,
+        nanos: 0,
+    };
+    unsafe { clock_gettime(THREAD_CPUTIME, &mut time) };
+    (time.seconds * 1_000_000_000 + time.nanos) as u64
+}
+
+struct Found {
+    sum: u64,
+    begun: u64,
+    ended: u64,
+    processors: u64,
+}
+
 fn main() {
     let words: Vec<String> = env::args().skip(1).collect();
     let [work, threads, rounds] = words.as_slice() else {
@@ -184,26 +213,43 @@ fn main() {
         }))),
         decider: &Numbered,
     };
-    let run = |seat: Seat| match work.as_str() {
-        "pass" => passes(&gate, seat, rounds),
-        "turn" => turns(&gate, rounds),
-        _ => hits(&gate, seat, &keys, rounds),
-    };
-    let new_seat = || Seat {
-        quota: 1 << 29,
-        pass: None,
-    };
-    let start = Instant::now();
-    let sum = thread::scope(|scope| {
-        let others: Vec<_> = (1..threads).map(|_| scope.spawn(|| run(new_seat()))).collect();
-        let mut sum = run(new_seat());
-        for other in others {
-            sum = sum.wrapping_add(other.join().unwrap());
+    let ready = AtomicU64::new(0);
+    let base = Instant::now();
+    let run = || {
+        let seat = Seat {
+            quota: 1 << 29,
+            pass: None,
+        };
+        ready.fetch_add(1, SeqCst);
+        while ready.load(SeqCst) < threads {
+            hint::spin_loop();
         }
-        sum
+        let (begun, before) = (base.elapsed().as_nanos() as u64, thread_time());
+        let sum = match work.as_str() {
+            "pass" => passes(&gate, seat, rounds),
+            "turn" => turns(&gate, rounds),
+            _ => hits(&gate, seat, &keys, rounds),
+        };
+        Found {
+            sum,
+            begun,
+            ended: base.elapsed().as_nanos() as u64,
+            processors: thread_time() - before,
+        }
+    };
+    let all = thread::scope(|scope| {
+        let others: Vec<_> = (1..threads).map(|_| scope.spawn(run)).collect();
+        let mut all = run();
+        for other in others {
+            let found = other.join().unwrap();
+            all.sum = all.sum.wrapping_add(found.sum);
+            all.begun = all.begun.min(found.begun);
+            all.ended = all.ended.max(found.ended);
+            all.processors += found.processors;
+        }
+        all
     });
-    let took = start.elapsed().as_nanos();
     let value = gate.take();
     assert_eq!((value.lines.len(), value.settled, value.newest), (0, 0, 0));
-    println!("{took} {sum}");
+    println!("{} {} {}", all.ended - all.begun, all.processors, all.sum);
 }
