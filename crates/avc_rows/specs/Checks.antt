@@ -5,8 +5,10 @@ use Rattle.access_vectors.specs.Asking.{Key as AskedKey}
 use Rattle.gate_rule.specs.declared.view.Key.{Key}
 use Rattle.gate_rule.specs.declared.view.View.{View}
 use Rattle.gate_rule.specs.Rows.{key_word, key_row, shows}
-use Rattle.gate_rule.specs.Views.{saw_row, filled, number_of}
+use Rattle.gate_rule.specs.Views.{saw_row, filled}
 use Rattle.epoch_gate.specs.Seats.{Shown}
+use Rattle.epoch_gate.specs.Known.{pass_number, found_last, found_before}
+use Rattle.epoch_gate.specs.Calls.{HasLooked}
 use Rattle.avc_rows.specs.declared.rows.Origin.{Origin}
 use Rattle.avc_rows.specs.declared.rows.Origin.TheVariants.{Hit, Asked}
 
@@ -15,11 +17,11 @@ abbrev pub IsSame : {E D O : Type 0} → Shown E D O → Shown E D O → Type 0
 IsSame s t = (t.table ≡ s.table) × (t.view ≡ record s.view { trace = t.view.trace; served = t.view.served })
 
 -- a hit is one step, a look that showed the key's row under the pass's number; where the decider was asked there were two: a look that showed none, and a fill of the key's row with the answer
-abbrev pub IsShown : {E D O : Type 0} → Key → View E D O → View E D O → ℕ → Origin → Type 0
-IsShown key v w vector Hit = (w ≡ saw_row key v (key_word key) w.trace.last.found) × (shows (number_of v.rights.pass) key w.trace.last.found ≡ true)
-IsShown key v w vector Asked =
-    (w ≡ filled key (saw_row key v (key_word key) w.trace.earlier.found) (key_word key) w.trace.last.found (key_row (number_of v.rights.pass) key vector))
-    × (shows (number_of v.rights.pass) key w.trace.earlier.found ≡ false)
+abbrev pub IsShown : {E D O : Type 0} → Key → Shown E D O → Shown E D O → ℕ → Origin → Type 0
+IsShown key s t vector Hit = HasLooked key s t × (shows (pass_number s) key (found_last t) ≡ true)
+IsShown key s t vector Asked =
+    (t.view ≡ filled key (saw_row key s.view (key_word key) (found_before t)) (key_word key) (found_last t) (key_row (pass_number s) key vector))
+    × (shows (pass_number s) key (found_before t) ≡ false)
 
 -- a key as askers tell it
 abbrev pub as_asked : Key → AskedKey

@@ -1,6 +1,7 @@
 ghost use Rattle.std.specs.Prelude.{◌≡◌};
 ghost use Rattle.gate_rule.specs.declared.view.Pass.TheVariants.{Inside};
 ghost use Rattle.epoch_gate.specs.Seats.{IsOfGate};
+ghost use Rattle.epoch_gate.specs.Known.{decider_of, pass_held};
 
 use crate::rows::check;
 use access_vectors::{Asker, Class, Decider, Plainly, Vector};
@@ -15,22 +16,22 @@ pub struct Cached<'a, 'd, V: Journal<D>, D: Decider> {
     pub seat: &'a mut Seat<V, D>,
     number: u32,
     pub plainly: Plainly<'a, D>,
-    ghost ready: { IsOfGate gate.now seat.now × (seat.now.view.rights.pass ≡ Inside number plainly.ver) × (plainly.decider.now ≡ gate.now.fixed.decider) },
+    ghost ready: { IsOfGate gate.now seat.now × (pass_held seat.now ≡ Inside number plainly.ver) × (plainly.decider.now ≡ decider_of gate.now) },
 }
 
 impl<'a, 'd, V: Journal<D>, D: Decider> Cached<'a, 'd, V, D> {
     ghost use Rattle.std.specs.Prelude.{◌≡◌};
-    ghost use Rattle.gate_rule.specs.Views.{pass_version};
-    ghost use Rattle.epoch_gate.specs.Seats.{IsOfGate, IsInside};
+    ghost use Rattle.epoch_gate.specs.Seats.{IsOfGate};
+    ghost use Rattle.epoch_gate.specs.Known.{decider_of, HasPass, pass_version};
 
     /// The asker of a seat with a pass, of which nothing was asked yet.
     pub fn new(gate: &'a Gate<'d, V, D>, seat: &'a mut Seat<V, D>) -> Self
         requires gate { IsOfGate gate.now seat.old }
-        requires pass { IsInside seat.old.view.rights.pass }
+        requires pass { HasPass seat.old }
         ensures gate { result.gate.now ≡ gate.entry.now }
         ensures seat { (result.seat.ghost_name ≡ seat.entry.ghost_name) × (result.seat.now ≡ seat.entry.now) }
-        ensures decider { result.plainly.decider.now ≡ gate.entry.now.fixed.decider }
-        ensures version { result.plainly.ver ≡ pass_version seat.entry.now.view.rights.pass }
+        ensures decider { result.plainly.decider.now ≡ decider_of gate.entry.now }
+        ensures version { result.plainly.ver ≡ pass_version seat.entry.now }
         ensures asks { result.plainly.count ≡ 0 }
     {
         let Some((number, version)) = seat.pass() else {
@@ -49,6 +50,7 @@ impl<'a, 'd, V: Journal<D>, D: Decider> Cached<'a, 'd, V, D> {
 impl<'a, 'd, V: Journal<D>, D: Decider> Asker for Cached<'a, 'd, V, D> {
     ghost use Rattle.std.specs.Prelude.{◌≡◌, map, Some, refl};
     ghost use Rattle.std.proofs.Common.{◌∙◌, ap};
+    ghost use Rattle.epoch_gate.specs.Known.{keys_served};
     ghost use Rattle.avc_rows.specs.Checks.{IsSame, IsSame-transitive, as_asked};
 
     ghost decides = { λ c. D.decides c.plainly.decider.now };
@@ -57,7 +59,7 @@ impl<'a, 'd, V: Journal<D>, D: Decider> Asker for Cached<'a, 'd, V, D> {
 
     ghost asks = { λ c. c.plainly.count };
 
-    ghost keys = { λ c. Some (map as_asked c.seat.now.view.served) };
+    ghost keys = { λ c. Some (map as_asked (keys_served c.seat.now)) };
 
     ghost same = { λ c d. (d.seat.ghost_name ≡ c.seat.ghost_name) × (d.gate.now ≡ c.gate.now) × (d.plainly.decider.now ≡ c.plainly.decider.now) × (d.plainly.ver ≡ c.plainly.ver) × IsSame c.seat.now d.seat.now };
 

@@ -1,6 +1,6 @@
 ghost use Rattle.std.specs.Prelude.{◌≡◌, ◌∷◌, [], ◌++◌, IsTrue};
-ghost use Rattle.gate_rule.specs.Views.{pass_version};
-ghost use Rattle.epoch_gate.specs.Seats.{IsOfGate, IsInside, key_of};
+ghost use Rattle.epoch_gate.specs.Seats.{IsOfGate, key_of};
+ghost use Rattle.epoch_gate.specs.Known.{decider_of, HasPass, keys_served, vector_for};
 ghost use Rattle.avc_rows.specs.Checks.{IsSame, IsShown};
 
 use access_vectors::{Class, Decider, Vector};
@@ -34,12 +34,12 @@ pub fn check<V: Journal<D>, D: Decider>(
     c: Class,
 ) -> Checked
     requires gate { IsOfGate gate.now seat.old }
-    requires pass { IsInside seat.old.view.rights.pass }
-    requires source { IsTrue ((D.decides gate.now.fixed.decider).known s) }
-    requires target { IsTrue ((D.decides gate.now.fixed.decider).known t) }
-    ensures vector { result.vector ≡ (D.decides gate.now.fixed.decider).vector (pass_version seat.old.view.rights.pass) s t c }
-    ensures origin { IsShown (key_of s t c) seat.old.view seat.new.view result.vector result.origin }
-    ensures served { seat.new.view.served ≡ seat.old.view.served ++ key_of s t c ∷ [] }
+    requires pass { HasPass seat.old }
+    requires source { IsTrue ((D.decides (decider_of gate.now)).known s) }
+    requires target { IsTrue ((D.decides (decider_of gate.now)).known t) }
+    ensures vector { result.vector ≡ vector_for D.decides gate.now seat.old (key_of s t c) }
+    ensures origin { IsShown (key_of s t c) seat.old seat.new result.vector result.origin }
+    ensures served { keys_served seat.new ≡ keys_served seat.old ++ key_of s t c ∷ [] }
     ensures same { IsSame seat.old seat.new }
     ensures gate { IsOfGate gate.now seat.new }
 {

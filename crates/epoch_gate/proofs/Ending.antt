@@ -4,7 +4,7 @@ use Rattle.std.proofs.lemmas.Bool.Decides.{nat_tests}
 use mathlib.Core.Option.{some, some-injective}
 use mathlib.Core.Option as maybe
 use lib.ListN.{get_elem?, length-replicate}
-use Rattle.atomic_table.specs.Table.{Final, Seen, opening}
+use Rattle.atomic_table.specs.Table.{Final, Seen, State, opening}
 use Rattle.access_vectors.specs.Decisions.{Decisions, IsClosed}
 use Rattle.gate_rule.specs.declared.view.Role.TheVariants.{Admin}
 use Rattle.gate_rule.specs.declared.view.Ticket.TheVariants.{Without}
@@ -17,7 +17,6 @@ use Rattle.gate_rule.specs.Rule.{Kept, fixed_of}
 use Rattle.gate_rule.specs.Told.{Closes}
 use Rattle.gate_rule.proofs.Seating as seating
 use Rattle.epoch_gate.specs.Opening.{is_outside}
-use Rattle.epoch_gate.specs.Seats.{HasEnded}
 
 pub inside : (n most : ℕ) → is_outside n most ≡ false → (0 < n) × (n ≤ most)
 inside n most h = (grind (arith, nat_tests), grind (arith, nat_tests))
@@ -29,12 +28,12 @@ zeros (suc n) (suc i) = zeros n i
 
 module _ {V E D O : Type 0} (M : Means V E D O) (decides : D → Decisions) (k : Terms V D) where
   -- the table at the start meets the rule
-  pub opened : (ws : List ℕ) (xs : List (Option V)) (x : V) → ws ≡ replicate 517 zero → xs ≡ Some x ∷ [] → k.first.value ≡ x → (d : D) → k.decider.value ≡ d → M.history x ≡ [] → M.decider x ≡ d → M.promise (M.opening x) d []
+  pub opened : (ws : List ℕ) (xs : List (Option V)) (x : V) → ws ≡ replicate 517 zero → xs ≡ Some x ∷ [] → k.first.value ≡ x → (d : D) → k.decider.value ≡ d → M.history x ≡ [] → M.decider x ≡ d → M.promise (M.opening x) d [] → M.keeps x
       → IsClosed (decides d) → k.seats ≤ 64 → k.quota ≤ 536870912 → k.most ≤ 1048575 → Kept M decides k (opening ws xs (first_seat (fixed_of M k)))
-  opened ws xs x zero_words one first d named fresh decider promise closed seats quota most =
+  opened ws xs x zero_words one first d named fresh decider promise keeps closed seats quota most =
       subst (λ (l : List (Option V)). Kept M decides k (opening ws l (first_seat (fixed_of M k)))) (sym one)
       (seating.opens M decides k ws x (ap length zero_words ∙ length-replicate 517 zero) (λ i. ap (λ (l : List ℕ). get_or l i 0) zero_words ∙ zeros 517 i) (sym first) fresh (decider ∙ sym named)
-      (subst (λ (y : D). M.promise (M.opening x) y []) (sym named) promise)
+      (subst (λ (y : D). M.promise (M.opening x) y []) (sym named) promise) keeps
       (subst (λ (y : D). (0 < (decides y).versions) × ((decides y).versions ≤ 256)) (sym named) (closed.some_version, closed.few_versions)) seats quota (omega arith))
 
   module _ (id : ℕ) (v v' : View E D O) (ws : List ℕ) (xs : List (Option V)) (end : Final (Seen (Kept M decides k) id v) ws xs) (same : v ≡ v') where
@@ -47,5 +46,5 @@ module _ {V E D O : Type 0} (M : Means V E D O) (decides : D → Decisions) (k :
         (w.0, some-injective slot (Some w.0) (sym there ∙ home), subst (λ (x : View E D O). Closes M x w.0) same w.2)
 
     -- the rule held to the end
-    pub has_ended : (f : Fixed D O) → fixed_of M k ≡ f → HasEnded M decides f v'
+    pub has_ended : (f : Fixed D O) → fixed_of M k ≡ f → (key : Terms V D) × (s : State (Option V) (View E D O)) × (at : ℕ) × Kept M decides key s × (fixed_of M key ≡ f) × (get_elem? s.views at ≡ some v')
     has_ended f fixed = (k, end.0, id, end.1.0, fixed, end.1.1 ∙ ap some same)

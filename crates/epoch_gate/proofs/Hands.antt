@@ -12,8 +12,8 @@ use Rattle.gate_rule.specs.Meaning.{Means}
 use Rattle.gate_rule.specs.Tickets.{has_turn}
 use Rattle.gate_rule.specs.Rows.{IsKey}
 use Rattle.gate_rule.specs.Views.{IsLive, took, gave}
-use Rattle.gate_rule.specs.Rule.{Kept}
-use Rattle.gate_rule.specs.Told.{Extends, IsOf, Takes}
+use Rattle.gate_rule.specs.Rule.{Kept, IsOf}
+use Rattle.gate_rule.specs.Told.{Extends, Takes}
 use Rattle.gate_rule.specs.Told as told
 use Rattle.gate_rule.proofs.Serving.{turn_is}
 use Rattle.gate_rule.proofs.Steps as kept

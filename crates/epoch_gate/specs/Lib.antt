@@ -1,2 +1,4 @@
 pub mod Seats
+pub mod Known
+pub mod Calls
 pub mod Opening

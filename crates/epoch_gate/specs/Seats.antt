@@ -1,10 +1,6 @@
 -- Gates, seats and the administrator, as contracts see them.
-use Rattle.std.specs.Prelude.{◌≡◌, ℕ, ◌+◌, ◌<◌, ◌≤◌, ◌⊎◌, List, [], ◌∷◌, ◌++◌, length, ◌%◌, if◌then◌else◌, Option, Some, None}
-use mathlib.Core.Option.{some}
-use lib.ListN.{get_elem?}
-use Rattle.gate_rule.specs.declared.journal.Terms.{Terms}
-use Rattle.gate_rule.specs.Rule.{Kept, fixed_of}
-use Rattle.atomic_table.specs.Table.{Me, State}
+use Rattle.std.specs.Prelude.{◌≡◌, ℕ, ◌<◌, ◌≤◌, List, [], ◌∷◌, length, Option, Some, None}
+use Rattle.atomic_table.specs.Table.{Me}
 use Rattle.atomic_table.specs.Seated.{TableId}
 use Rattle.access_vectors.specs.Decisions.{Decisions}
 use Rattle.gate_rule.specs.declared.view.Role.{Role}
@@ -16,14 +12,10 @@ use Rattle.gate_rule.specs.declared.view.Pass.TheVariants.{Out, Inside}
 use Rattle.gate_rule.specs.declared.view.Key.{Key}
 use Rattle.gate_rule.specs.declared.view.Fixed.{Fixed}
 use Rattle.gate_rule.specs.declared.view.View.{View}
-use Rattle.gate_rule.specs.History.{Kind, of_caller, controls, last_notice, settled_in, StartsWith}
-use Rattle.gate_rule.specs.History.Kind.{Call}
-use Rattle.gate_rule.specs.Meaning.{Means}
-use Rattle.gate_rule.specs.Tickets.{word_of}
 use Rattle.access_vectors.specs.declared.class.Class.{Class}
-use Rattle.gate_rule.specs.Rows.{key_row, shows}
-use Rattle.gate_rule.specs.Views.{number_of, pass_version, number_in, caller_of, entries_of, entered, took}
-use Rattle.gate_rule.specs.Told.{IsAllowed, IsOwn, IsPassFor}
+use Rattle.gate_rule.specs.Rows.{key_row}
+use Rattle.gate_rule.specs.Views.{number_of, pass_version}
+use Rattle.gate_rule.specs.Told.{IsPassFor}
 
 -- a seat, or the administrator: the table that it sits at, and all that it knows
 pub record Shown (E D O : Type 0) : Type 0 where
@@ -102,44 +94,6 @@ pub record IsAdmin {V E D O : Type 0} (me : Me (Option V) (View E D O)) (number 
   pub rest : IsAtRest me.0.ticket
   pub room : (f : Fixed D O) → me.0.fixed ≡ Some f → (made ≤ f.seats) × (number ≤ f.most)
 
-module _ {E D O : Type 0} (kind : E → Kind) where
-  -- the seat entered: it has a pass of the number and version found, one less to enter, and the number is not below the last notice that it has seen
-  abbrev pub HasEntered : View E D O → View E D O → Type 0
-  HasEntered v w = (w ≡ entered v w.trace.last.found) × ((last_notice kind v.seen).0 ≤ number_in w.trace.last.found)
-
-  -- a history that a caller may give back: the one seen, with at most one entry more, a call under its own and its pass's number
-  abbrev pub ExtendsAsCaller : View E D O → List E → Type 0
-  ExtendsAsCaller v log =
-      (log ≡ v.seen)
-      ⊎ ((e : E) × (log ≡ v.seen ++ e ∷ []) × (mark : ℕ) × (number : ℕ) × (version : ℕ) × (v.rights.pass ≡ Inside number version) × (kind e ≡ Call (caller_of v.role) mark number))
-
-  -- a history that the administrator may give back: the one seen, with at most one entry more, an own one; the last notice is that of its current number
-  abbrev pub ExtendsAsAdmin : View E D O → List E → Type 0
-  ExtendsAsAdmin v log = ((log ≡ v.seen) ⊎ ((e : E) × (log ≡ v.seen ++ e ∷ []) × IsOwn kind v Admin e)) × (last_notice kind log ≡ (v.desk.newest, v.desk.version))
-
-module _ {V E D O : Type 0} (M : Means V E D O) where
-  -- the seat has the turn and the value: it has seen all, and only its trace tells how long it waited
-  abbrev pub HasTaken : View E D O → View E D O → V → Type 0
-  HasTaken v w x = w ≡ record (took M x v (word_of w.ticket)) { trace = w.trace }
-
-  -- what a caller learns with the turn: what it had seen is how the history begins, its entries are all of its number, and its pass is one that the history allows
-  abbrev pub LearnsAsCaller : View E D O → V → Type 0
-  LearnsAsCaller v x = StartsWith (M.history x) v.seen × (v.mine ≡ of_caller M.kind (caller_of v.role) (M.history x)) × IsAllowed M.kind v.rights.pass (M.history x)
-
-  -- what the administrator learns with the turn: the last notice is that of its current number, its turns' entries are all notices and acknowledgements, and the number is settled or is pending
-  abbrev pub LearnsAsAdmin : View E D O → V → Type 0
-  LearnsAsAdmin v x =
-      StartsWith (M.history x) v.seen × (last_notice M.kind (M.history x) ≡ (v.desk.newest, v.desk.version)) × (controls M.kind (M.history x) ≡ entries_of v.desk.turns)
-      × ((settled_in M.kind (M.history x) ≡ v.desk.newest) ⊎ (v.desk.newest ≡ settled_in M.kind (M.history x) + 1))
-
 -- the key of a source, a target and a class
 abbrev pub key_of : ℕ → ℕ → Class → Key
 key_of s t c = record { source = s; target = t; class = c }
-
--- the vector that a word shows of a key under a number, if it is such a row
-abbrev pub shown_vector : ℕ → Key → ℕ → Option ℕ
-shown_vector n key w = if shows n key w then Some (w % 65536) else None
-
--- at the end the table met the whole rule, and this view was the administrator's
-abbrev pub HasEnded : {V E D O : Type 0} → Means V E D O → (D → Decisions) → Fixed D O → View E D O → Type 0
-HasEnded {V = V} {E = E} {D = D} {O = O} M decides f v = (k : Terms V D) × (s : State (Option V) (View E D O)) × (id : ℕ) × Kept M decides k s × (fixed_of M k ≡ f) × (get_elem? s.views id ≡ some v)

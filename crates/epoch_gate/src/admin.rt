@@ -1,5 +1,6 @@
 //! The administrator's seat.
 ghost use Rattle.std.specs.Prelude.{◌≡◌, ◌+◌, length};
+ghost use Rattle.epoch_gate.specs.Known.{seats_made, seats_retired};
 
 use access_vectors::Decider;
 use gate_rule::{Journal, Place};
@@ -30,7 +31,7 @@ impl<V: Journal<D>, D: Decider> Model for Admin<V, D> {
 impl<V: Journal<D>, D: Decider> Admin<V, D> {
     /// How many seats were made and not retired.
     pub fn out(&self) -> u8
-        ensures { result + length self.now.view.desk.ended ≡ self.now.view.desk.made }
+        ensures { result + length (seats_retired self.now) ≡ seats_made self.now }
     {
         self.made - self.retired
     }

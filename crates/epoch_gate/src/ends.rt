@@ -1,9 +1,8 @@
 //! How a gate is made, and how it ends.
 ghost use Rattle.std.specs.Prelude.{◌≡◌, [], length, IfOk};
-ghost use Rattle.gate_rule.specs.declared.view.Ticket.TheVariants.{Without};
-ghost use Rattle.gate_rule.specs.Views;
-ghost use Rattle.gate_rule.specs.Told;
-ghost use Rattle.epoch_gate.specs.Seats.{IsOfGate, HasEnded};
+ghost use Rattle.epoch_gate.specs.Seats.{IsOfGate};
+ghost use Rattle.epoch_gate.specs.Known.{IsIdle, seats_made, seats_retired};
+ghost use Rattle.epoch_gate.specs.Calls.{IsFirst, HasClosed, HasEnded};
 ghost use Rattle.epoch_gate.specs.Opening.{refusal, IsRefused};
 ghost use Rattle.epoch_gate.specs.Opening;
 
@@ -37,10 +36,10 @@ impl<'d, V: Journal<D>, D: Decider> Gate<'d, V, D> {
     ) -> Result<(Gate<'d, V, D>, Admin<V, D>), GateFault>
         requires fresh { V.means.history value ≡ [] }
         requires decider { V.means.decider value ≡ decider.now }
-        requires promise { V.means.promise (V.means.opening value) decider.now [] }
+        requires promise { V.means.promise (V.means.opening value) decider.now [] × V.means.keeps value }
         ensures refused { IsRefused result (refusal seats quota most) }
         ensures fixed { IfOk result (λ made. made.0.fixed ≡ record { decider = decider.now; opening = V.means.opening value; seats = seats; quota = quota; most = most }) }
-        ensures admin { IfOk result (λ made. IsOfGate made.0 made.1 × (made.1.view ≡ Views.first_seat made.0.fixed)) }
+        ensures admin { IfOk result (λ made. IsOfGate made.0 made.1 × IsFirst made.0 made.1) }
     {
         if is_outside(u32::from(seats), 64) {
             return Err(GateFault::Seats(seats));
@@ -88,10 +87,10 @@ impl<'d, V: Journal<D>, D: Decider> Gate<'d, V, D> {
     /// Ends the gate once every seat is retired, and gives the value.
     pub fn close(self, admin: Admin<V, D>) -> V
         requires gate { IsOfGate self admin }
-        requires out { admin.view.desk.made ≡ length admin.view.desk.ended }
-        requires idle { admin.view.ticket ≡ Without }
-        ensures closed { Told.Closes V.means admin.view result }
-        ensures rule { HasEnded V.means D.decides self.entry.fixed admin.view }
+        requires out { seats_made admin ≡ length (seats_retired admin) }
+        requires idle { IsIdle admin }
+        ensures closed { HasClosed V.means admin result }
+        ensures rule { HasEnded V.means D.decides self.entry admin }
     {
         let Gate { table, .. } = self;
         let Admin { place, .. } = admin;

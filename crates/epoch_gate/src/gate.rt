@@ -1,9 +1,8 @@
 //! The gate, and what callers do at it.
 ghost use Rattle.std.specs.Prelude.{◌≡◌, ◌↔◌, Some, OnOk, OnErr, IsErr};
-ghost use Rattle.gate_rule.specs.declared.view.Pass.TheVariants.{Out};
-ghost use Rattle.gate_rule.specs.Views;
-ghost use Rattle.gate_rule.specs.Told;
-ghost use Rattle.epoch_gate.specs.Seats.{IsOfGate, IsInside, HasEntered};
+ghost use Rattle.epoch_gate.specs.Seats.{IsOfGate};
+ghost use Rattle.epoch_gate.specs.Known.{decider_of, HasPass, HasNoPass, quota_left, found_last};
+ghost use Rattle.epoch_gate.specs.Calls.{HasEntered, HasLeft, StoodAt};
 
 use crate::seat::Seat;
 use crate::steps;
@@ -42,7 +41,7 @@ pub struct Spent;
 impl<'d, V: Journal<D>, D: Decider> Gate<'d, V, D> {
     /// What decides, as the gate was given it.
     pub fn decider(&self) -> &D
-        ensures { result.now ≡ self.now.fixed.decider }
+        ensures { result.now ≡ decider_of self.now }
     {
         self.decider
     }
@@ -51,11 +50,11 @@ impl<'d, V: Journal<D>, D: Decider> Gate<'d, V, D> {
     /// where no entering is left.
     pub fn enter(&self, seat: &mut Seat<V, D>) -> Result<(), Spent>
         requires gate { IsOfGate self.now seat.old }
-        requires out { seat.old.view.rights.pass ≡ Out }
-        ensures ok { OnOk result (HasEntered V.means.kind seat.old.view seat.new.view) }
-        ensures pass { OnOk result (IsInside seat.new.view.rights.pass) }
-        ensures rule { OnOk result (Told.Stood V.means D.decides self.now.fixed seat.old.view 0 seat.new.view.trace.last.found) }
-        ensures spent { IsErr result ↔ (seat.old.view.rights.quota ≡ 0) }
+        requires out { HasNoPass seat.old }
+        ensures ok { OnOk result (HasEntered V.means.kind seat.old seat.new) }
+        ensures pass { OnOk result (HasPass seat.new) }
+        ensures rule { OnOk result (StoodAt V.means D.decides self.now seat.old 0 (found_last seat.new)) }
+        ensures spent { IsErr result ↔ (quota_left seat.old ≡ 0) }
         ensures err { OnErr result (seat.new ≡ seat.old) }
         ensures gate { IsOfGate self.now seat.new }
     {
@@ -72,8 +71,8 @@ impl<'d, V: Journal<D>, D: Decider> Gate<'d, V, D> {
     /// Takes the seat's pass back, with one step on the counter of its number's parity.
     pub fn leave(&self, seat: &mut Seat<V, D>)
         requires gate { IsOfGate self.now seat.old }
-        requires pass { IsInside seat.old.view.rights.pass }
-        ensures left { seat.new.view ≡ Views.left seat.old.view seat.new.view.trace.last.found }
+        requires pass { HasPass seat.old }
+        ensures left { HasLeft seat.old seat.new }
         ensures gate { IsOfGate self.now seat.new }
     {
         let Some((number, _)) = seat.pass else {

@@ -1,12 +1,10 @@
 //! What the administrator does at a gate beside taking turns.
-ghost use Rattle.std.specs.Prelude.{◌≡◌, ◌≢◌, ◌+◌, ◌-◌, ◌<◌, ◌≤◌, ◌↔◌, true, length, IfOk, OnOk, OnErr, IsErr};
-ghost use Rattle.gate_rule.specs.declared.view.Ticket.TheVariants.{Without};
-ghost use Rattle.gate_rule.specs.declared.view.Pass.TheVariants.{Out};
-ghost use Rattle.gate_rule.specs.History.{settled_in};
-ghost use Rattle.gate_rule.specs.Tickets.{has_turn};
-ghost use Rattle.gate_rule.specs.Views;
-ghost use Rattle.gate_rule.specs.Told;
+ghost use Rattle.std.specs.Prelude.{◌≡◌, ◌+◌, ◌<◌, ◌≤◌, ◌↔◌, length, IfOk, OnOk, OnErr, IsErr};
+ghost use Rattle.gate_rule.specs.Views.{leave_word};
 ghost use Rattle.epoch_gate.specs.Seats.{IsOfGate};
+ghost use Rattle.epoch_gate.specs.Known.{seats_allowed, greatest_number, versions_at, IsIdle, HasTurn, HasNoPass, found_last};
+ghost use Rattle.epoch_gate.specs.Known.{seats_made, seats_retired, current_number, current_version, passes_counted, cleared_below, IsSettled, IsUnsettled};
+ghost use Rattle.epoch_gate.specs.Calls.{IsNew, HasMade, HasRaised, HasCounted, HasRetired, StoodAt};
 
 use crate::admin::Admin;
 use crate::gate::Gate;
@@ -27,9 +25,9 @@ impl<'d, V: Journal<D>, D: Decider> Gate<'d, V, D> {
     /// A new seat, numbered in the order of making. `Full` exactly where as many were made as the gate may have.
     pub fn seat(&self, admin: &mut Admin<V, D>) -> Result<Seat<V, D>, SeatFault>
         requires { IsOfGate self.now admin.old }
-        ensures seat { IfOk result (λ seat. IsOfGate self.now seat × (seat.view ≡ Views.new_seat admin.old.view)) }
-        ensures ok { OnOk result (admin.new.view ≡ Views.glanced (Views.with_seat admin.old.view) admin.new.view.trace.last.found) }
-        ensures full { IsErr result ↔ (admin.old.view.desk.made ≡ self.now.fixed.seats) }
+        ensures seat { IfOk result (λ seat. IsOfGate self.now seat × IsNew admin.old seat) }
+        ensures ok { OnOk result (HasMade admin.old admin.new) }
+        ensures full { IsErr result ↔ (seats_made admin.old ≡ seats_allowed self.now) }
         ensures err { OnErr result (admin.new ≡ admin.old) }
         ensures gate { IsOfGate self.now admin.new }
     {
@@ -51,13 +49,13 @@ impl<'d, V: Journal<D>, D: Decider> Gate<'d, V, D> {
     /// Raises the policy number by one, with this version, in one step.
     pub fn raise(&self, admin: &mut Admin<V, D>, ver: u8)
         requires gate { IsOfGate self.now admin.old }
-        requires turn { has_turn admin.old.view.ticket ≡ true }
-        requires settled { settled_in V.means.kind admin.old.view.seen ≡ admin.old.view.desk.newest }
-        requires most { admin.old.view.desk.newest < self.now.fixed.most }
-        requires version { ver < (D.decides self.now.fixed.decider).versions }
-        ensures raised { admin.new.view ≡ Views.raised admin.old.view admin.new.view.trace.last.found admin.new.view.trace.last.left }
-        ensures version { admin.new.view.desk.version ≡ ver }
-        ensures rule { Told.Stood V.means D.decides self.now.fixed admin.old.view 0 admin.new.view.trace.last.found }
+        requires turn { HasTurn admin.old }
+        requires settled { IsSettled V.means.kind admin.old }
+        requires most { current_number admin.old < greatest_number self.now }
+        requires version { ver < versions_at D.decides self.now }
+        ensures raised { HasRaised admin.old admin.new }
+        ensures version { current_version admin.new ≡ ver }
+        ensures rule { StoodAt V.means D.decides self.now admin.old 0 (found_last admin.new) }
         ensures gate { IsOfGate self.now admin.new }
     {
         let found = steps::raise(&self.table.shared, &mut admin.place, admin.version, ver);
@@ -71,26 +69,26 @@ impl<'d, V: Journal<D>, D: Decider> Gate<'d, V, D> {
     /// After 0 every pass below the current number is below a forced one, then and ever after.
     pub fn older(&self, admin: &mut Admin<V, D>) -> u64
         requires gate { IsOfGate self.now admin.old }
-        requires turn { has_turn admin.old.view.ticket ≡ true }
-        requires pending { settled_in V.means.kind admin.old.view.seen ≢ admin.old.view.desk.newest }
-        ensures counted { admin.new.view ≡ Views.counted admin.old.view admin.new.view.trace.last.found }
-        ensures older { result + admin.new.view.trace.last.found ≡ admin.old.view.desk.counted }
-        ensures clear { result ≡ 0 → admin.new.view.desk.clear ≡ admin.old.view.desk.newest }
-        ensures few { result + length admin.old.view.desk.ended ≤ admin.old.view.desk.made }
-        ensures rule { Told.Stood V.means D.decides self.now.fixed admin.old.view (Views.leave_word (admin.old.view.desk.newest + 1)) admin.new.view.trace.last.found }
+        requires turn { HasTurn admin.old }
+        requires pending { IsUnsettled V.means.kind admin.old }
+        ensures counted { HasCounted admin.old admin.new }
+        ensures older { result + found_last admin.new ≡ passes_counted admin.old }
+        ensures clear { result ≡ 0 → cleared_below admin.new ≡ current_number admin.old }
+        ensures few { result + length (seats_retired admin.old) ≤ seats_made admin.old }
+        ensures rule { StoodAt V.means D.decides self.now admin.old (leave_word (current_number admin.old + 1)) (found_last admin.new) }
         ensures gate { IsOfGate self.now admin.new }
     {
         let left = steps::count(&self.table.shared, &mut admin.place, admin.number);
         admin.counted - left
     }
 
-    /// Ends a seat. Its number is never used again.
+    /// Ends a seat. Its number is never used again. The administrator may have the turn.
     pub fn retire(&self, seat: Seat<V, D>, admin: &mut Admin<V, D>)
         requires gate { IsOfGate self.now admin.old }
         requires seat { IsOfGate self.now seat }
-        requires out { seat.view.rights.pass ≡ Out }
-        requires idle { (seat.view.ticket ≡ Without) × (admin.old.view.ticket ≡ Without) }
-        ensures retired { admin.new.view ≡ Views.glanced (Views.with_ended admin.old.view seat.view) admin.new.view.trace.last.found }
+        requires out { HasNoPass seat }
+        requires idle { IsIdle seat }
+        ensures retired { HasRetired admin.old seat admin.new }
         ensures gate { IsOfGate self.now admin.new }
     {
         let Seat { place, .. } = seat;

@@ -1,10 +1,9 @@
 //! Cache rows: each look and each fill is one step, and none waits.
-ghost use Rattle.std.specs.Prelude.{◌≡◌, ◌<◌, false, IfSome};
-ghost use Rattle.gate_rule.specs.Rows.{key_word, key_row, shows};
-ghost use Rattle.gate_rule.specs.Views.{done, number_of, pass_version};
-ghost use Rattle.gate_rule.specs.Views;
-ghost use Rattle.gate_rule.specs.Told;
-ghost use Rattle.epoch_gate.specs.Seats.{IsOfGate, IsInside, key_of, shown_vector};
+ghost use Rattle.std.specs.Prelude.{◌≡◌, ◌<◌, IfSome};
+ghost use Rattle.gate_rule.specs.Rows.{key_word};
+ghost use Rattle.epoch_gate.specs.Seats.{IsOfGate, key_of};
+ghost use Rattle.epoch_gate.specs.Known.{HasPass, pass_number, found_last, vector_for};
+ghost use Rattle.epoch_gate.specs.Calls.{shown_vector, HasLooked, HasMissedRow, HasFilled, StoodAt};
 
 use crate::gate::Gate;
 use crate::seat::Seat;
@@ -33,11 +32,11 @@ impl<'d, V: Journal<D>, D: Decider> Gate<'d, V, D> {
     /// number. One load.
     pub fn look(&self, seat: &mut Seat<V, D>, s: Sid, t: Sid, c: Class) -> Option<Vector>
         requires gate { IsOfGate self.now seat.old }
-        requires pass { IsInside seat.old.view.rights.pass }
-        ensures looked { seat.new.view ≡ Views.saw_row (key_of s t c) seat.old.view (key_word (key_of s t c)) seat.new.view.trace.last.found }
-        ensures shown { result ≡ shown_vector (number_of seat.old.view.rights.pass) (key_of s t c) seat.new.view.trace.last.found }
-        ensures vector { IfSome result (λ vector. vector ≡ (D.decides self.now.fixed.decider).vector (pass_version seat.old.view.rights.pass) s t c) }
-        ensures rule { Told.Stood V.means D.decides self.now.fixed seat.old.view (key_word (key_of s t c)) seat.new.view.trace.last.found }
+        requires pass { HasPass seat.old }
+        ensures looked { HasLooked (key_of s t c) seat.old seat.new }
+        ensures shown { result ≡ shown_vector (pass_number seat.old) (key_of s t c) (found_last seat.new) }
+        ensures vector { IfSome result (λ vector. vector ≡ vector_for D.decides self.now seat.old (key_of s t c)) }
+        ensures rule { StoodAt V.means D.decides self.now seat.old (key_word (key_of s t c)) (found_last seat.new) }
         ensures gate { IsOfGate self.now seat.new }
     {
         let Some((number, _)) = seat.pass else {
@@ -50,11 +49,10 @@ impl<'d, V: Journal<D>, D: Decider> Gate<'d, V, D> {
     /// Puts the decider's vector of a key into the key's row, under the pass's number. One swap.
     pub fn fill(&self, seat: &mut Seat<V, D>, s: Sid, t: Sid, c: Class, v: Vector)
         requires gate { IsOfGate self.now seat.old }
-        requires pass { IsInside seat.old.view.rights.pass }
-        requires looked { seat.old.view.trace.last ≡ done (key_word (key_of s t c)) seat.old.view.trace.last.found seat.old.view.trace.last.found }
-        requires missed { shows (number_of seat.old.view.rights.pass) (key_of s t c) seat.old.view.trace.last.found ≡ false }
-        requires vector { v ≡ (D.decides self.now.fixed.decider).vector (pass_version seat.old.view.rights.pass) s t c }
-        ensures filled { seat.new.view ≡ Views.filled (key_of s t c) seat.old.view (key_word (key_of s t c)) seat.new.view.trace.last.found (key_row (number_of seat.old.view.rights.pass) (key_of s t c) v) }
+        requires pass { HasPass seat.old }
+        requires missed { HasMissedRow (key_of s t c) seat.old }
+        requires vector { v ≡ vector_for D.decides self.now seat.old (key_of s t c) }
+        ensures filled { HasFilled (key_of s t c) v seat.old seat.new }
         ensures gate { IsOfGate self.now seat.new }
     {
         let Some((number, _)) = seat.pass else {

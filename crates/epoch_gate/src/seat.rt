@@ -1,8 +1,7 @@
 //! A caller's seat.
-ghost use Rattle.std.specs.Prelude.{◌≡◌, Some};
-ghost use Rattle.gate_rule.specs.declared.view.Fixed.{Fixed};
-ghost use Rattle.gate_rule.specs.declared.view.Role.TheVariants.{Caller};
-ghost use Rattle.epoch_gate.specs.Seats.{pass_of, IsPassWithin};
+ghost use Rattle.std.specs.Prelude.{◌≡◌};
+ghost use Rattle.epoch_gate.specs.Seats.{pass_of};
+ghost use Rattle.epoch_gate.specs.Known.{IsCallerOf, pass_held, HasPassWithin};
 
 use access_vectors::Decider;
 use gate_rule::{Journal, Place};
@@ -31,15 +30,15 @@ impl<V: Journal<D>, D: Decider> Model for Seat<V, D> {
 impl<V: Journal<D>, D: Decider> Seat<V, D> {
     /// The seat's number, from 0 in the order of making.
     pub fn number(&self) -> u8
-        ensures { self.now.view.role ≡ Caller result }
+        ensures { IsCallerOf result self.now }
     {
         self.number
     }
 
     /// Number and version of the seat's pass, or `None` exactly where it has none.
     pub fn pass(&self) -> Option<(u32, u8)>
-        ensures pass { self.now.view.rights.pass ≡ pass_of result }
-        ensures within { (f : Fixed D V.Opening) → self.now.view.fixed ≡ Some f → IsPassWithin D.decides f self.now.view.rights.pass }
+        ensures pass { pass_held self.now ≡ pass_of result }
+        ensures within { HasPassWithin D.decides self.now }
     {
         self.pass
     }

@@ -9,7 +9,8 @@ ghost use Rattle.gate_rule.specs.Rows.{key_word};
 ghost use Rattle.gate_rule.specs.Tickets.{has_turn};
 ghost use Rattle.gate_rule.specs.Views.{IsLive, number_of, leave_word};
 ghost use Rattle.gate_rule.specs.Views;
-ghost use Rattle.gate_rule.specs.Told.{Extends, IsOf, Takes};
+ghost use Rattle.gate_rule.specs.Rule.{IsOf};
+ghost use Rattle.gate_rule.specs.Told.{Extends, Takes};
 ghost use Rattle.gate_rule.specs.Told;
 ghost use Rattle.atomic_table.specs.Table.{step};
 ghost use mathlib.Core.Option.{none};
@@ -69,6 +70,7 @@ pub(crate) fn poll<V: Journal<D>, D: Decider>(
     ensures table { place.new.table_id ≡ place.old.table_id }
     ensures turn { IfSome result (λ value. (place.new.me ≡ (Views.took V.means value place.old.me.0 ticket, (0, None) ∷ [])) × Takes V.means place.old.me.0 value) }
     ensures wait { IfNone result (place.new.me ≡ (Views.missed place.old.me.0 place.new.me.0.trace.last.found, [])) }
+    ensures missed { IfNone result (place.new.me.0.trace.last.found ≢ ticket) }
 {
     let found = words.load::<Poll>(place, 4);
     if found != ticket {
@@ -204,7 +206,7 @@ pub(crate) fn retire<V: Journal<D>, D: Decider>(
     other: Place<V, D>,
 )
     requires table { IsAt words.now.table_id place.old.table_id × (other.table_id ≡ words.now.table_id) }
-    requires seat { (place.old.me.0.role ≡ TheAdmin) × (place.old.me.0.ticket ≡ Without) }
+    requires seat { place.old.me.0.role ≡ TheAdmin }
     requires other { IsCaller other.me.0.role × (other.me.0.ticket ≡ Without) × (other.me.0.rights.pass ≡ Out) × (other.me.1 ≡ []) }
     ensures table { place.new.table_id ≡ place.old.table_id }
     ensures kept { place.new.me ≡ (Views.with_ended place.old.me.0 other.me.0, place.old.me.1) }

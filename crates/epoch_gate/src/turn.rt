@@ -1,12 +1,14 @@
 //! Turns: tickets are drawn and served in order, and the value goes from hand to hand.
-ghost use Rattle.std.specs.Prelude.{◌≡◌, Some, None, [], ◌∷◌, true};
-ghost use Rattle.gate_rule.specs.declared.view.Ticket.TheVariants.{Without, Drawn};
+ghost use Rattle.std.specs.Prelude.{◌≡◌, Some, None, [], ◌∷◌};
+ghost use Rattle.gate_rule.specs.declared.view.Ticket.TheVariants.{Drawn};
 ghost use Rattle.gate_rule.specs.History.{of_caller};
-ghost use Rattle.gate_rule.specs.Tickets.{has_turn};
-ghost use Rattle.gate_rule.specs.Views.{IsLive, caller_of};
+ghost use Rattle.gate_rule.specs.Views.{IsLive};
 ghost use Rattle.gate_rule.specs.Views;
-ghost use Rattle.gate_rule.specs.Told.{IsOf, Takes};
-ghost use Rattle.epoch_gate.specs.Seats.{IsAt, IsOfGate, HasTaken, LearnsAsCaller, LearnsAsAdmin, ExtendsAsCaller, ExtendsAsAdmin};
+ghost use Rattle.gate_rule.specs.Told.{Takes};
+ghost use Rattle.epoch_gate.specs.Seats.{IsAt, IsOfGate};
+ghost use Rattle.epoch_gate.specs.Known.{IsIdle, HasTurn, own_entries, caller_number};
+ghost use Rattle.epoch_gate.specs.Calls.{HasLookedUntil, HasWaited, HasTaken, HasGiven, LearnsAsCaller, LearnsAsAdmin};
+ghost use Rattle.epoch_gate.specs.Calls.{ExtendsAsCaller, ExtendsAsAdmin, IsValueOf};
 
 use crate::admin::Admin;
 use crate::gate::Gate;
@@ -27,6 +29,7 @@ fn wait_for_turn<V: Journal<D>, D: Decider, R: Wait>(
     requires seat { IsLive place.old.me.0.role × (place.old.me.0.ticket ≡ Drawn ticket) × (place.old.me.1 ≡ []) }
     ensures table { place.new.table_id ≡ place.old.table_id }
     ensures turn { place.new.me ≡ (record (Views.took V.means result place.old.me.0 ticket) { trace = place.new.me.0.trace }, (0, None) ∷ []) }
+    ensures waited { HasLookedUntil place.old.me.0.trace ticket place.new.me.0.trace }
     ensures learns { Takes V.means place.old.me.0 result }
 {
     let backoff = Backoff::new();
@@ -43,11 +46,12 @@ impl<'d, V: Journal<D>, D: Decider> Gate<'d, V, D> {
     /// Waits for the turn, and gives the value.
     pub fn take<R: Wait>(&self, rt: &R, seat: &mut Seat<V, D>) -> V
         requires gate { IsOfGate self.now seat.old }
-        requires idle { seat.old.view.ticket ≡ Without }
-        ensures took { HasTaken V.means seat.old.view seat.new.view result }
-        ensures turn { has_turn seat.new.view.ticket ≡ true }
-        ensures learns { LearnsAsCaller V.means seat.old.view result }
-        ensures value { IsOf V.means self.now.fixed result }
+        requires idle { IsIdle seat.old }
+        ensures took { HasTaken V.means seat.old seat.new result }
+        ensures waited { HasWaited seat.old seat.new }
+        ensures turn { HasTurn seat.new }
+        ensures learns { LearnsAsCaller V.means seat.old result }
+        ensures value { IsValueOf V.means self.now result }
         ensures gate { IsOfGate self.now seat.new }
     {
         let ticket = steps::draw(&self.table.shared, &mut seat.place);
@@ -57,11 +61,11 @@ impl<'d, V: Journal<D>, D: Decider> Gate<'d, V, D> {
     /// Puts the value back, with at most one entry more, and passes the turn on.
     pub fn give(&self, seat: &mut Seat<V, D>, value: V)
         requires gate { IsOfGate self.now seat.old }
-        requires turn { has_turn seat.old.view.ticket ≡ true }
-        requires history { ExtendsAsCaller V.means.kind seat.old.view (V.means.history value) }
-        requires value { IsOf V.means self.now.fixed value }
-        ensures gave { seat.new.view ≡ Views.gave V.means value seat.old.view seat.new.view.trace.last.found }
-        ensures mine { seat.new.view.mine ≡ of_caller V.means.kind (caller_of seat.old.view.role) (V.means.history value) }
+        requires turn { HasTurn seat.old }
+        requires history { ExtendsAsCaller V.means.kind seat.old (V.means.history value) }
+        requires value { IsValueOf V.means self.now value }
+        ensures gave { HasGiven V.means seat.old seat.new value }
+        ensures mine { own_entries seat.new ≡ of_caller V.means.kind (caller_number seat.old) (V.means.history value) }
         ensures gate { IsOfGate self.now seat.new }
     {
         steps::give(&self.table.shared, &mut seat.place, value);
@@ -70,11 +74,12 @@ impl<'d, V: Journal<D>, D: Decider> Gate<'d, V, D> {
     /// Waits for the turn, and gives the value.
     pub fn take_admin<R: Wait>(&self, rt: &R, admin: &mut Admin<V, D>) -> V
         requires gate { IsOfGate self.now admin.old }
-        requires idle { admin.old.view.ticket ≡ Without }
-        ensures took { HasTaken V.means admin.old.view admin.new.view result }
-        ensures turn { has_turn admin.new.view.ticket ≡ true }
-        ensures learns { LearnsAsAdmin V.means admin.old.view result }
-        ensures value { IsOf V.means self.now.fixed result }
+        requires idle { IsIdle admin.old }
+        ensures took { HasTaken V.means admin.old admin.new result }
+        ensures waited { HasWaited admin.old admin.new }
+        ensures turn { HasTurn admin.new }
+        ensures learns { LearnsAsAdmin V.means admin.old result }
+        ensures value { IsValueOf V.means self.now result }
         ensures gate { IsOfGate self.now admin.new }
     {
         let ticket = steps::draw(&self.table.shared, &mut admin.place);
@@ -84,10 +89,10 @@ impl<'d, V: Journal<D>, D: Decider> Gate<'d, V, D> {
     /// Puts the value back, with at most one entry more, and passes the turn on.
     pub fn give_admin(&self, admin: &mut Admin<V, D>, value: V)
         requires gate { IsOfGate self.now admin.old }
-        requires turn { has_turn admin.old.view.ticket ≡ true }
-        requires history { ExtendsAsAdmin V.means.kind admin.old.view (V.means.history value) }
-        requires value { IsOf V.means self.now.fixed value }
-        ensures gave { admin.new.view ≡ Views.gave V.means value admin.old.view admin.new.view.trace.last.found }
+        requires turn { HasTurn admin.old }
+        requires history { ExtendsAsAdmin V.means.kind admin.old (V.means.history value) }
+        requires value { IsValueOf V.means self.now value }
+        ensures gave { HasGiven V.means admin.old admin.new value }
         ensures gate { IsOfGate self.now admin.new }
     {
         steps::give(&self.table.shared, &mut admin.place, value);

@@ -1,25 +1,13 @@
-ghost use Rattle.std.specs.Prelude.{◌≡◌, ◌+◌, IfOk};
-ghost use Rattle.gate_rule.specs.declared.view.Ticket.TheVariants.{Without};
+ghost use Rattle.std.specs.Prelude.{◌≡◌, IfOk, IfErr, OnErr};
 ghost use Rattle.epoch_gate.specs.Seats.{IsOfGate};
-ghost use Rattle.gate_ledger.specs.Changes.{HasAnswered};
+ghost use Rattle.epoch_gate.specs.Known.{IsIdle, seats_made, seats_retired, seen_by, greatest_number, versions_at};
+ghost use Rattle.gate_ledger.specs.Changes.{phase_after, notice_fault, IsRefusal, HasNotified, HasNotNotified, HasAnswered, HasNoRoom};
 
-use crate::ledger::{Ledger, Line};
+use crate::ledger::{Ledger, Line, NotifyFault};
 use access_vectors::Decider;
 use epoch_gate::{Admin, Gate};
 use flask_sid::Memory;
 use std::sync::Wait;
-
-/// Why no change was begun.
-#[derive(Clone, Copy, Debug, PartialEq, Eq)]
-pub enum NotifyFault {
-    /// This number is pending.
-    Pending(u32),
-    /// The decider has no such version.
-    NoVersion,
-    /// The greatest number is in use.
-    Spent,
-    Memory,
-}
 
 /// What became of an acknowledgement.
 #[derive(Clone, Copy, Debug, PartialEq, Eq)]
@@ -32,7 +20,8 @@ pub enum Acknowledged {
     Idle,
 }
 
-/// Raises the number to this version and adds its notice, under one turn.
+/// Raises the number to this version and adds its notice, under one turn. The faults are tested in their order, over
+/// the lines that the turn finds. After one of them the turn is given back, and nothing was added.
 pub fn notify<D: Decider, R: Wait>(
     rt: &R,
     gate: &Gate<Ledger<D>, D>,
@@ -41,51 +30,43 @@ pub fn notify<D: Decider, R: Wait>(
     most: u32,
 ) -> Result<u32, NotifyFault>
     requires gate { IsOfGate gate.now admin.old }
-    requires idle { admin.old.view.ticket ≡ Without }
-    requires most { most ≡ gate.now.fixed.most }
-    ensures ok { IfOk result (λ number. (number ≡ admin.old.view.desk.newest + 1) × (admin.new.view.desk.newest ≡ number) × (admin.new.view.desk.version ≡ ver)) }
-    ensures seats { (admin.new.view.desk.made ≡ admin.old.view.desk.made) × (admin.new.view.desk.ended ≡ admin.old.view.desk.ended) }
-    ensures idle { admin.new.view.ticket ≡ Without }
+    requires idle { IsIdle admin.old }
+    requires most { most ≡ greatest_number gate.now }
+    ensures ok { IfOk result (λ number. HasNotified (versions_at D.decides gate.now) ver most number admin.old admin.new) }
+    ensures refused { IfErr result (IsRefusal (notice_fault (phase_after (seen_by admin.new)) (versions_at D.decides gate.now) ver most)) }
+    ensures err { OnErr result (HasNotNotified admin.old admin.new) }
+    ensures seats { (seats_made admin.new ≡ seats_made admin.old) × (seats_retired admin.new ≡ seats_retired admin.old) }
+    ensures idle { IsIdle admin.new }
     ensures gate { IsOfGate gate.now admin.new }
 {
     let ledger = gate.take_admin(rt, admin);
-    let newest = ledger.newest;
-    if ledger.settled != newest {
-        gate.give_admin(admin, ledger);
-        return Err(NotifyFault::Pending(newest));
-    }
-    if u16::from(ver) >= gate.decider().versions() {
-        gate.give_admin(admin, ledger);
-        return Err(NotifyFault::NoVersion);
-    }
-    if newest >= most {
-        gate.give_admin(admin, ledger);
-        return Err(NotifyFault::Spent);
-    }
-    match ledger.with_line(Line::Noticed(newest + 1, ver)) {
+    match ledger.with_notice(gate.decider().versions(), ver, most) {
         Ok(ledger) => {
+            let number = ledger.newest;
             gate.raise(admin, ver);
             gate.give_admin(admin, ledger);
-            Ok(newest + 1)
+            Ok(number)
         }
-        Err(ledger) => {
+        Err((ledger, fault)) => {
             gate.give_admin(admin, ledger);
-            Err(NotifyFault::Memory)
+            Err(fault)
         }
     }
 }
 
 /// Counts the older passes and, where none is out, adds the acknowledgement of the pending number, under one turn.
+/// After `Memory` the turn is given back, and nothing was added.
 pub fn acknowledge<D: Decider, R: Wait>(
     rt: &R,
     gate: &Gate<Ledger<D>, D>,
     admin: &mut Admin<Ledger<D>, D>,
 ) -> Result<Acknowledged, Memory>
     requires gate { IsOfGate gate.now admin.old }
-    requires idle { admin.old.view.ticket ≡ Without }
-    ensures answer { IfOk result (λ answer. HasAnswered answer admin.old.view admin.new.view) }
-    ensures seats { (admin.new.view.desk.made ≡ admin.old.view.desk.made) × (admin.new.view.desk.ended ≡ admin.old.view.desk.ended) }
-    ensures idle { admin.new.view.ticket ≡ Without }
+    requires idle { IsIdle admin.old }
+    ensures answer { IfOk result (λ answer. HasAnswered answer admin.old admin.new) }
+    ensures err { OnErr result (HasNoRoom admin.old admin.new) }
+    ensures seats { (seats_made admin.new ≡ seats_made admin.old) × (seats_retired admin.new ≡ seats_retired admin.old) }
+    ensures idle { IsIdle admin.new }
     ensures gate { IsOfGate gate.now admin.new }
 {
     let ledger = gate.take_admin(rt, admin);

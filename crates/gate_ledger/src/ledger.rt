@@ -1,6 +1,7 @@
-ghost use Rattle.std.specs.Prelude.{◌≡◌, [], ◌∷◌, ◌++◌, Ok, Err, MatchResult};
-ghost use Rattle.gate_rule.specs.History.{settled, noticed, settled_in, last_notice};
+ghost use Rattle.std.specs.Prelude.{◌≡◌, ◌+◌, ◌<◌, [], ◌∷◌, ◌++◌, None, IfOk, IfErr, OnOk, MatchResult};
+ghost use Rattle.gate_rule.specs.History.{settled, noticed, settled_in, last_notice, Alternates};
 ghost use Rattle.gate_ledger.specs.Lines.{kind_of};
+ghost use Rattle.gate_ledger.specs.Changes.{phase_after, notice_fault, IsRefusal};
 
 use access_vectors::Decider;
 use gate_rule::Journal;
@@ -18,6 +19,18 @@ pub enum Line {
     Settled(u32),
 }
 
+/// Why no change was begun.
+#[derive(Clone, Copy, Debug, PartialEq, Eq)]
+pub enum NotifyFault {
+    /// This number is pending.
+    Pending(u32),
+    /// The decider has no such version.
+    NoVersion,
+    /// The greatest number is in use.
+    Spent,
+    Memory,
+}
+
 /// A list of lines, with the last acknowledged and the last noticed policy number.
 #[derive(Drop)]
 pub struct Ledger<D: Decider> {
@@ -30,8 +43,10 @@ pub struct Ledger<D: Decider> {
 }
 
 impl<D: Decider> Journal<D> for Ledger<D> {
-    ghost use Rattle.std.specs.Prelude.{[]};
-    ghost use Rattle.gate_rule.specs.History.{Alternates};
+    ghost use Rattle.std.specs.Prelude.{[], None};
+    ghost use Rattle.access_vectors.specs.declared.class.Class.TheVariants.{File};
+    ghost use Rattle.access_vectors.specs.NoSlots.{no_follows, none_are_stale, none_named};
+    ghost use Rattle.gate_rule.specs.History.{Alternates, phase_in};
     ghost use Rattle.gate_ledger.specs.Lines.{kind_of};
 
     type Entry = Line;
@@ -44,11 +59,18 @@ impl<D: Decider> Journal<D> for Ledger<D> {
       opening = λ ledger. tt;
       decider = λ ledger. ledger.decider.value;
       promise = λ opening decider log. Alternates kind_of (D.decides decider).versions 0 0 log;
-      follows = λ ledger. [];
-      stale = λ ledger. 0;
+      keeps = λ ledger. Unit {0};
+      class = File;
+      pair_of = λ ledger place. None;
+      follows = λ ledger. no_follows;
+      stale = λ ledger. [];
     } };
 
     ghost alternates = { λ opening decider log promised. promised };
+
+    ghost are_named = { λ ledger kept. none_named (phase_in kind_of ledger.lines.items) };
+
+    ghost are_stale = { λ ledger kept. none_are_stale (D.decides ledger.decider.value) File (phase_in kind_of ledger.lines.items) (λ place. None) };
 }
 
 impl<D: Decider> Ledger<D> {
@@ -84,6 +106,35 @@ impl<D: Decider> Ledger<D> {
                 newest,
                 decider,
             }),
+        }
+    }
+
+    /// The ledger with the notice of the next number and this version; where that may not come or there is no memory,
+    /// as it was, with the fault.
+    pub fn with_notice(self, versions: u16, ver: u8, most: u32) -> Result<Self, (Self, NotifyFault)>
+        requires lawful { Alternates kind_of versions 0 0 self.lines.items }
+        ensures ok { IfOk result (λ ledger. ledger.lines.items ≡ self.lines.items ++ Line.Noticed ledger.newest ver ∷ []) }
+        ensures next { IfOk result (λ ledger. ledger.newest ≡ (last_notice kind_of self.lines.items).0 + 1) }
+        ensures allowed { OnOk result (notice_fault (phase_after self.lines.items) versions ver most ≡ None) }
+        ensures lawful { IfOk result (λ ledger. Alternates kind_of versions 0 0 ledger.lines.items) }
+        ensures settled { OnOk result (settled_in kind_of self.lines.items ≡ (last_notice kind_of self.lines.items).0) }
+        ensures below { OnOk result (((last_notice kind_of self.lines.items).0 < most) × (ver < versions)) }
+        ensures err { IfErr result (λ refused. (refused.0.lines.items ≡ self.lines.items) × IsRefusal (notice_fault (phase_after self.lines.items) versions ver most) refused.1) }
+        ensures decider { MatchResult result (λ ledger. ledger.decider.value ≡ self.decider.value) (λ refused. refused.0.decider.value ≡ self.decider.value) }
+    {
+        let newest = self.newest;
+        if self.settled != newest {
+            return Err((self, NotifyFault::Pending(newest)));
+        }
+        if u16::from(ver) >= versions {
+            return Err((self, NotifyFault::NoVersion));
+        }
+        if newest >= most {
+            return Err((self, NotifyFault::Spent));
+        }
+        match self.with_line(Line::Noticed(newest + 1, ver)) {
+            Ok(ledger) => Ok(ledger),
+            Err(ledger) => Err((ledger, NotifyFault::Memory)),
         }
     }
 }

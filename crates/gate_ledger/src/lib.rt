@@ -6,8 +6,8 @@ mod change;
 mod ledger;
 mod station;
 
-pub use change::{Acknowledged, NotifyFault, acknowledge, notify};
-pub use ledger::{Ledger, Line};
+pub use change::{Acknowledged, acknowledge, notify};
+pub use ledger::{Ledger, Line, NotifyFault};
 pub use station::call;
 
 #[cfg(test)]

@@ -1,8 +1,8 @@
 ghost use Rattle.std.specs.Prelude.{◌≡◌, [], ◌∷◌, ◌++◌, OnOk, OnErr};
-ghost use Rattle.gate_rule.specs.declared.view.Ticket.TheVariants.{Without};
-ghost use Rattle.gate_rule.specs.Views.{caller_of, number_of};
-ghost use Rattle.epoch_gate.specs.Seats.{IsOfGate, IsInside};
+ghost use Rattle.epoch_gate.specs.Seats.{IsOfGate};
+ghost use Rattle.epoch_gate.specs.Known.{IsIdle, HasPass, own_entries, caller_number, pass_held, pass_number, quota_left};
 ghost use Rattle.gate_ledger.specs.declared.ledger.Line.TheVariants.{Op};
+ghost use Rattle.gate_ledger.specs.Changes.{HasAddedNone, HasCalled, HasHadTurn};
 
 use crate::ledger::{Ledger, Line};
 use access_vectors::Decider;
@@ -19,12 +19,16 @@ pub fn call<D: Decider, R: Wait>(
     mark: u32,
 ) -> Result<(), Memory>
     requires gate { IsOfGate gate.now seat.old }
-    requires idle { seat.old.view.ticket ≡ Without }
-    requires pass { IsInside seat.old.view.rights.pass }
-    ensures ok { OnOk result (seat.new.view.mine ≡ seat.old.view.mine ++ Op (caller_of seat.old.view.role) mark (number_of seat.old.view.rights.pass) ∷ []) }
-    ensures err { OnErr result (seat.new.view.mine ≡ seat.old.view.mine) }
-    ensures pass { seat.new.view.rights ≡ seat.old.view.rights }
-    ensures idle { seat.new.view.ticket ≡ Without }
+    requires idle { IsIdle seat.old }
+    requires pass { HasPass seat.old }
+    ensures ok { OnOk result (own_entries seat.new ≡ own_entries seat.old ++ Op (caller_number seat.old) mark (pass_number seat.old) ∷ []) }
+    ensures added { OnOk result (HasCalled (Op (caller_number seat.old) mark (pass_number seat.old)) seat.old seat.new) }
+    ensures err { OnErr result (own_entries seat.new ≡ own_entries seat.old) }
+    ensures none { OnErr result (HasAddedNone seat.old seat.new) }
+    ensures turn { HasHadTurn seat.old seat.new }
+    ensures number { caller_number seat.new ≡ caller_number seat.old }
+    ensures pass { (pass_held seat.new ≡ pass_held seat.old) × (quota_left seat.new ≡ quota_left seat.old) }
+    ensures idle { IsIdle seat.new }
     ensures gate { IsOfGate gate.now seat.new }
 {
     let caller = seat.number();

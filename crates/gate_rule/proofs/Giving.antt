@@ -13,6 +13,7 @@ use Rattle.gate_rule.specs.declared.view.Ticket.{Ticket}
 use Rattle.gate_rule.specs.declared.view.Ticket.TheVariants.{Without, Served}
 use Rattle.gate_rule.specs.declared.view.Rights.{Rights}
 use Rattle.gate_rule.specs.declared.view.Ended.{Ended}
+use Rattle.gate_rule.specs.declared.view.Item.{Item}
 use Rattle.gate_rule.specs.declared.view.Fixed.{Fixed}
 use Rattle.gate_rule.specs.declared.view.View.{View}
 use Rattle.gate_rule.specs.declared.journal.Terms.{Terms}
@@ -22,10 +23,10 @@ use Rattle.gate_rule.specs.Meaning.{Means}
 use Rattle.gate_rule.specs.Tickets.{Tickets, has_turn}
 use Rattle.gate_rule.specs.Passes.{Passes}
 use Rattle.gate_rule.specs.Views.{IsLive, is_caller, one_more, gave, mine_in, item_of, entries_of, entry_added}
-use Rattle.gate_rule.specs.Rule.{Kept, Truth, Fits, FitsRole, FitsEnded, role_of, ticket_of, rights_of, fixed_of}
-use Rattle.gate_rule.specs.Told.{IsAllowed, Learns, IsOwn, Extends, IsOf, Takes, polls}
+use Rattle.gate_rule.specs.Rule.{Kept, Truth, Fits, FitsRole, FitsEnded, IsOf, HasOf, IsTurn, role_of, ticket_of, rights_of, fixed_of}
+use Rattle.gate_rule.specs.Told.{IsOwn, Extends}
 use Rattle.gate_rule.specs.Told as told
-use Rattle.gate_rule.proofs.Places.{each_set, map_kept, map_moved, word_else, word_here, same_place}
+use Rattle.gate_rule.proofs.Places.{each_set, each_more, map_kept, map_moved, word_else, word_here, same_place}
 use Rattle.gate_rule.proofs.Serving as serving
 use Rattle.gate_rule.proofs.Passing as passing
 use Rattle.gate_rule.proofs.Histories.{begins_here, begins_more, nothing_added, one_added, entries_more, entries_same, of_caller_other, controls_own, controls_other, notice_more, settled_more, forced_more, version_more}
@@ -68,9 +69,9 @@ module _ {V E D O : Type 0} (M : Means V E D O) (decides : D → Decisions) (k :
     -- the turn is passed on, with a history that grew so
     passed_on : (y : V) → Grown r.t v.role (M.history y) → IsLive v.role
         → ((role : Role) → v.role ≡ role → (role ≡ Admin → controls M.kind (M.history y) ≡ entries_of (v.desk.turns ++ item_of M v y ∷ [])) × ((role ≡ Admin → ⊥) → controls M.kind (M.history y) ≡ controls M.kind r.t.log))
-        → M.opening y ≡ (fixed_of M k).opening → M.decider y ≡ (fixed_of M k).decider → M.promise (fixed_of M k).opening (fixed_of M k).decider (M.history y)
+        → IsOf M (fixed_of M k) y
         → Kept M decides k (record { words = set s.words 4 (one_more (get_or s.words 4 0)); homes = some (Some y) ∷ []; views = set s.views id (gave M y v (get_or s.words 4 0)) })
-    passed_on y grown alive control opening decider promised =
+    passed_on y grown alive control is_of =
         let g = get_or s.words 4 0 in
         let ws = set s.words 4 (one_more g) in
         let v' = gave M y v g in
@@ -101,20 +102,21 @@ module _ {V E D O : Type 0} (M : Means V E D O) (decides : D → Decisions) (k :
           noticed = inl grown.last;
           dated = record { within = r.dated.within; bounds = r.dated.bounds; known = r.dated.known; told = λ m lt. r.dated.told m lt ∙ sym (grown.told m lt) };
           begins = r.begins;
-          promised = promised;
+          promised = is_of.2;
           place = inl (
             y,
             refl,
             refl,
             each_set (λ j (u : View E D O). has_turn u.ticket ≡ false) s.views id v' refl
                 (λ j u other e. serving.passed (map ticket_of s.views) (get_or s.words 3 0) g id w j u.ticket r.tickets at_ticket other (at_map ticket_of s.views j u e)),
-            opening,
-            decider,
+            is_of.0,
+            is_of.1,
+            is_of.3,
           );
           each = each_set (Fits M (fixed_of M k) t') s.views id v'
               (record {
                 seen = begins_here log;
-                promised = promised;
+                promised = is_of.2;
                 noticed = (let e : (last_notice M.kind log).0 ≡ r.t.newest = ap (λ (p : ℕ × ℕ). p.0) grown.last in omega arith);
                 role = own v.role refl (r.each id v at).role;
               })
@@ -130,10 +132,29 @@ module _ {V E D O : Type 0} (M : Means V E D O) (decides : D → Decisions) (k :
         ended : (e : Ended E) → FitsEnded M r.t e → FitsEnded M (record r.t { log = M.history y; settled = settled_in M.kind (M.history y); forced = forced_in M.kind (M.history y) }) e
         ended e h = (h.0, h.1, h.2 ∙ sym (grown.others e.number (gone_number v.role (r.each id v at).role e.number h.1)))
 
+        is_turn : HasOf M (fixed_of M k) v → IsTurn M (fixed_of M k) (item_of M v y)
+        is_turn h = (h.0, y, h.1, is_of, ap (λ (l : List E). entry_added l (M.history y)) (sym h.2), h.4, refl)
+
         own : (role : Role) → v.role ≡ role → FitsRole M (fixed_of M k) r.t id v role → FitsRole M (fixed_of M k) (record r.t { log = M.history y; settled = settled_in M.kind (M.history y); forced = forced_in M.kind (M.history y) }) id (gave M y v (get_or s.words 4 0)) role
         own Spent e h = absurd (subst IsLive e alive)
         own (Caller n) e h = (h.0, h.1, h.2, ap (λ (x : Role). mine_in M x v.mine (M.history y)) e, h.4)
-        own Admin e h = let c = (control Admin e).0 refl in (h.0, h.1, h.2, (λ i x there. ended x (h.3 i x there)), h.4, h.5, h.6, h.7, c, c, h.10, h.11)
+        own Admin e h =
+            let c = (control Admin e).0 refl in (
+              h.0,
+              h.1,
+              h.2,
+              (λ i x there. ended x (h.3 i x there)),
+              h.4,
+              h.5,
+              h.6,
+              h.7,
+              c,
+              c,
+              h.10,
+              h.11,
+              each_more (λ i (turn : Item E). IsTurn M (fixed_of M k) turn) v.desk.turns (item_of M v y) (is_turn (has_seen M decides k s r id v w at turn).2) h.12,
+              h.13,
+            )
 
         not_admin : (j : ℕ) → j ≢ id → (u : View E D O) → FitsRole M (fixed_of M k) r.t j u Admin → v.role ≡ Admin → ⊥
         not_admin j other u h e = other (h.0 ∙ sym (subst (FitsRole M (fixed_of M k) r.t id v) e (r.each id v at).role).0)
@@ -142,7 +163,7 @@ module _ {V E D O : Type 0} (M : Means V E D O) (decides : D → Decisions) (k :
         others j other u Spent h = h
         others j other u (Caller n) h = (h.0, h.1, h.2, h.3 ∙ sym (grown.others n (other_number v.role (r.each id v at).role n j other h.1)), h.4)
         others j other u Admin h =
-            (h.0, h.1, h.2, (λ i x there. ended x (h.3 i x there)), h.4, h.5, h.6, h.7, (control v.role refl).1 (not_admin j other u h) ∙ h.8, h.9, h.10, h.11)
+            (h.0, h.1, h.2, (λ i x there. ended x (h.3 i x there)), h.4, h.5, h.6, h.7, (control v.role refl).1 (not_admin j other u h) ∙ h.8, h.9, h.10, h.11, h.12, h.13)
 
     -- a caller has the turn, so the administrator has not
     caller_last : (n : ℕ) → v.role ≡ Caller n → last_notice M.kind r.t.log ≡ (r.t.newest, r.t.version r.t.newest)
@@ -231,14 +252,14 @@ module _ {V E D O : Type 0} (M : Means V E D O) (decides : D → Decisions) (k :
             (λ same.
             let e : M.history y ≡ r.t.log = same ∙ seen in
             passed_on y (grown_same v.role (M.history y) e (ap (last_notice M.kind) e ∙ caller_last n is)) alive
-            (λ role z. ((λ (a : role ≡ Admin). absurd (cc)), (λ _. ap (controls M.kind) e))) is_of.0 is_of.1 is_of.2)
+            (λ role z. ((λ (a : role ≡ Admin). absurd (cc)), (λ _. ap (controls M.kind) e))) is_of)
             (λ added.
             let e = added.0 in
             let more : M.history y ≡ r.t.log ++ e ∷ [] = added.1 ∙ ap (λ (l : List E). l ++ e ∷ []) seen in
             let own = subst (λ (x : Role). IsOwn M.kind v x e) is added.2 in
             let call = own.4 in
             passed_on y (subst (λ (x : Role). Grown r.t x (M.history y)) (sym is) (grown_call (M.history y) e more n own.0 own.1 call (caller_last n is))) alive
-            (λ role z. ((λ (a : role ≡ Admin). absurd (cc)), (λ _. ap (controls M.kind) more ∙ controls_other M.kind r.t.log e (ap is_control call)))) is_of.0 is_of.1 is_of.2)
+            (λ role z. ((λ (a : role ≡ Admin). absurd (cc)), (λ _. ap (controls M.kind) more ∙ controls_other M.kind r.t.log e (ap is_control call)))) is_of)
             ext.0
         by_role Admin is =
             let h = subst (FitsRole M (fixed_of M k) r.t id v) is (r.each id v at).role in
@@ -247,7 +268,7 @@ module _ {V E D O : Type 0} (M : Means V E D O) (decides : D → Decisions) (k :
             (λ same.
             let e : M.history y ≡ r.t.log = same ∙ seen in
             passed_on y (grown_same v.role (M.history y) e last) alive
-            (λ role z. ((λ _. ap (controls M.kind) e ∙ (h.8 ∙ sym (entries_same v.desk.turns (item_of M v y) (ap (entry_added v.seen) same ∙ nothing_added v.seen)))), (λ no. absurd (no (sym z ∙ is))))) is_of.0 is_of.1 is_of.2)
+            (λ role z. ((λ _. ap (controls M.kind) e ∙ (h.8 ∙ sym (entries_same v.desk.turns (item_of M v y) (ap (entry_added v.seen) same ∙ nothing_added v.seen)))), (λ no. absurd (no (sym z ∙ is))))) is_of)
             (λ added.
             let e = added.0 in
             let more : M.history y ≡ r.t.log ++ e ∷ [] = added.1 ∙ ap (λ (l : List E). l ++ e ∷ []) seen in
@@ -258,7 +279,7 @@ module _ {V E D O : Type 0} (M : Means V E D O) (decides : D → Decisions) (k :
               (λ _. ap (controls M.kind) more ∙ (controls_own M.kind r.t.log e g.1 ∙ (ap (λ (l : List E). l ++ e ∷ []) h.8
                   ∙ sym (entries_more v.desk.turns (item_of M v y) e (ap (entry_added v.seen) added.1 ∙ one_added v.seen e))))),
               (λ no. absurd (no (sym z ∙ is))),
-            )) is_of.0 is_of.1 is_of.2)
+            )) is_of)
             ext.0
 
   -- the value in hand, or another one where none is

@@ -1,12 +1,14 @@
 -- Histories with one entry more.
-use Rattle.std.proofs.Common.{subst, ◌≡◌, ℕ, ◌≤◌, Bool, true, false, cond, eqb, List, [], ◌∷◌, ◌++◌, length, sym, refl, ap, ◌∙◌, append-nil, append_assoc, eq-eqb, Option, Some, None, arith}
+use Rattle.std.proofs.Common.{length-append, nat_le, leb-true, subst, ◌≡◌, ◌≢◌, ℕ, ◌+◌, ◌≤◌, Bool, true, false, cond, eqb, List, [], ◌∷◌, ◌++◌, length, sym, refl, ap, ◌∙◌, append-nil, append_assoc, eq-eqb, Option, Some, None, arith}
 use Rattle.std.specs.List.{fold}
 use Rattle.std.proofs.lemmas.List.Elements.{filter-append}
 use Rattle.std.proofs.lemmas.List.Sums.{fold_push}
+use Rattle.access_vectors.specs.declared.phase.Phase.{Phase}
+use Rattle.access_vectors.specs.declared.phase.Phase.TheVariants.{Settled, Pending}
 use Rattle.gate_rule.specs.declared.view.Item.{Item}
-use Rattle.gate_rule.specs.History.{Kind, is_by, is_control, noticed, settled, forced_to, dated, of_caller, controls, last_notice, settled_in, forced_in, version_of, MayCome, Alternates, StartsWith}
+use Rattle.gate_rule.specs.History.{Kind, is_by, is_control, noticed, settled, forced_to, dated, of_caller, controls, last_notice, settled_in, forced_in, version_of, phase_after, phase_in, MayCome, Alternates, StartsWith}
 use Rattle.gate_rule.specs.History.Kind.{Call, Notice, Ack}
-use Rattle.gate_rule.specs.Views.{entry_added, entries_of, with_entry}
+use Rattle.gate_rule.specs.Views.{entry_added, entries_of, with_entry, longer}
 
 module _ {E : Type 0} where
   pub begins_here : (log : List E) → StartsWith log log
@@ -52,6 +54,19 @@ module _ {E : Type 0} where
 
       head_same : y ∷ (ys ++ s) ≡ x ∷ (xs ++ r) → y ≡ x
       head_same q = cc
+
+  -- a beginning that is as long as the whole is the whole
+  pub begins_whole : (log b rest : List E) → log ≡ b ++ rest → length log ≤ length b → log ≡ b
+  begins_whole log b [] e le = e ∙ append-nil b
+  begins_whole log b (x ∷ xs) e le = let a = ap length e in let z = length-append b (x ∷ xs) in absurd (omega arith)
+
+  -- of the whole and a beginning of it, the longer is the whole
+  pub longer_whole : (log a b : List E) → StartsWith log b → a ≡ log → longer a b ≡ log
+  longer_whole log a b h e = go (nat_le (length a) (length b)) refl
+    where
+      go : (x : Bool) → nat_le (length a) (length b) ≡ x → cond x b a ≡ log
+      go true le = sym (begins_whole log b h.0 h.1 (subst (λ (l : List E). length l ≤ length b) e (leb-true (length a) (length b) le)))
+      go false le = e
 
 module _ {E : Type 0} (kind : E → Kind) where
   pub of_caller_own : (n : ℕ) (log : List E) (e : E) → is_by n (kind e) ≡ true → of_caller kind n (log ++ e ∷ []) ≡ of_caller kind n log ++ e ∷ []
@@ -125,6 +140,42 @@ module _ {E : Type 0} (kind : E → Kind) where
   newest_apart p (Call caller mark number) = refl
   newest_apart p (Notice number version) = refl
   newest_apart p (Ack number forced) = refl
+
+  -- a phase is that of a settled number and of a last notice
+  abbrev pub Leads : ℕ → ℕ × ℕ → Phase → Type 0
+  Leads a p (Settled n v) = (n ≡ a) × (p ≡ (n, v))
+  Leads a p (Pending n old new) = (n ≡ a + 1) × (p ≡ (n, new))
+
+  leads_on : (versions a : ℕ) (p : ℕ × ℕ) (phase : Phase) (k : Kind) → Leads a p phase → MayCome versions a p.0 k → Leads (settled a k) (noticed p k) (phase_after phase k)
+  leads_on versions a p phase (Call caller mark number) h may = h
+  leads_on versions a p (Settled n v) (Notice number version) h may = (may.1, refl)
+  leads_on versions a p (Pending n old new) (Notice number version) h may = let e = ap (λ (q : ℕ × ℕ). q.0) h.1 in let b = h.0 in let c = may.0 in absurd (omega arith)
+  leads_on versions a p (Settled n v) (Ack number forced) h may = let e = ap (λ (q : ℕ × ℕ). q.0) h.1 in let b = h.0 in let c = may.0 in absurd (omega arith)
+  leads_on versions a p (Pending n old new) (Ack number forced) h may = (sym (may.1 ∙ ap (λ (q : ℕ × ℕ). q.0) h.1), h.1)
+
+  phase_from : (versions a : ℕ) (p : ℕ × ℕ) (phase : Phase) (log : List E) → Leads a p phase → Alternates kind versions a p.0 log
+      → Leads (fold (λ b x. settled b (kind x)) a log) (fold (λ q x. noticed q (kind x)) p log) (fold (λ f x. phase_after f (kind x)) phase log)
+  phase_from versions a p phase [] leads h = leads
+  phase_from versions a p phase (x ∷ xs) leads h =
+      phase_from versions (settled a (kind x)) (noticed p (kind x)) (phase_after phase (kind x)) xs (leads_on versions a p phase (kind x) leads h.0)
+      (subst (λ (c : ℕ). Alternates kind versions (settled a (kind x)) c xs) (newest_apart p (kind x)) h.1)
+
+  leads_settled : (a : ℕ) (p : ℕ × ℕ) (phase : Phase) → Leads a p phase → a ≡ p.0 → phase ≡ Settled p.0 p.1
+  leads_settled a p (Settled n v) h e = λ i. Settled ((sym h.1 i).0) ((sym h.1 i).1)
+  leads_settled a p (Pending n old new) h e = let b = h.0 in let c = ap (λ (q : ℕ × ℕ). q.0) h.1 in absurd (omega arith)
+
+  leads_pending : (a : ℕ) (p : ℕ × ℕ) (phase : Phase) → Leads a p phase → a ≢ p.0 → (old : ℕ) × (phase ≡ Pending p.0 old p.1)
+  leads_pending a p (Settled n v) h ne = absurd (ne (sym h.0 ∙ sym (ap (λ (q : ℕ × ℕ). q.0) h.1)))
+  leads_pending a p (Pending n old new) h ne = (old, λ i. Pending ((sym h.1 i).0) old ((sym h.1 i).1))
+
+  -- where the last number noticed is settled, nothing is pending
+  pub phase_settled : (versions : ℕ) (log : List E) → Alternates kind versions 0 0 log → settled_in kind log ≡ (last_notice kind log).0 → phase_in kind log ≡ Settled (last_notice kind log).0 (last_notice kind log).1
+  phase_settled versions log h same = leads_settled (settled_in kind log) (last_notice kind log) (phase_in kind log) (phase_from versions 0 (0, 0) (Settled 0 0) log (refl, refl) h) same
+
+  -- and else it is pending
+  pub phase_pending : (versions : ℕ) (log : List E) → Alternates kind versions 0 0 log → settled_in kind log ≢ (last_notice kind log).0
+      → (old : ℕ) × (phase_in kind log ≡ Pending (last_notice kind log).0 old (last_notice kind log).1)
+  phase_pending versions log h apart = leads_pending (settled_in kind log) (last_notice kind log) (phase_in kind log) (phase_from versions 0 (0, 0) (Settled 0 0) log (refl, refl) h) apart
 
   alternates_from : (versions a : ℕ) (p : ℕ × ℕ) (log : List E) (e : E) → Alternates kind versions a p.0 log → MayCome versions (fold (λ b x. settled b (kind x)) a log) (fold (λ q x. noticed q (kind x)) p log).0 (kind e)
       → Alternates kind versions a p.0 (log ++ e ∷ [])

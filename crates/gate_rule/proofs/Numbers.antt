@@ -22,7 +22,6 @@ use Rattle.gate_rule.specs.Tickets.{Tickets, has_turn}
 use Rattle.gate_rule.specs.Passes.{Passes}
 use Rattle.gate_rule.specs.Views.{IsLive, is_caller, done, traced}
 use Rattle.gate_rule.specs.Rule.{Kept, Truth, Fits, FitsRole, role_of, ticket_of, rights_of, fixed_of}
-use Rattle.gate_rule.specs.Told.{IsAllowed, Learns, IsOwn, Extends, IsOf, Takes, polls}
 use Rattle.gate_rule.specs.Told as told
 use Rattle.gate_rule.proofs.Places.{each_set, map_kept, within, word_else, word_here, word_same}
 use Rattle.gate_rule.proofs.Passing as passing
@@ -122,14 +121,14 @@ module _ {V E D O : Type 0} (M : Means V E D O) (decides : D → Decisions) (k :
         };
         begins = r.begins;
         promised = r.promised;
-        place = inr (id, v', seen.0, set_here s.views id v' (within s.views id v at), ap has_turn turn, seen.1);
+        place = inr (id, v', seen.0, set_here s.views id v' (within s.views id v at), ap has_turn turn, seen.1, seen.2);
         each = each_set (Fits M (fixed_of M k) t') s.views id v'
             (let z = r.each id v at in record {
               seen = z.seen;
               promised = z.promised;
               noticed = (let y = z.noticed in omega arith);
               role = subst (FitsRole M (fixed_of M k) (record r.t { newest = r.t.newest + 1; counted = r.passes.entered - r.t.counted; version = put r.t.version (r.t.newest + 1) ver }) id v') (sym is)
-                  (h.0, h.1, h.2, h.3, ap (λ (x : ℕ). x + 1) h.4, left_is.1 ∙ sym there, (λ i. f.2 i - h.6 i), h.7, h.8, h.9, h.10, h.11);
+                  (h.0, h.1, h.2, h.3, ap (λ (x : ℕ). x + 1) h.4, left_is.1 ∙ sym there, (λ i. f.2 i - h.6 i), h.7, h.8, h.9, h.10, h.11, h.12, h.13);
             })
             (λ j u other e. let z = r.each j u e in record { seen = z.seen; promised = z.promised; noticed = (let y = z.noticed in omega arith); role = others s r id v at is ver j other u u.role z.role });
         unmade = r.unmade;
@@ -190,14 +189,14 @@ module _ {V E D O : Type 0} (M : Means V E D O) (decides : D → Decisions) (k :
         dated = r.dated;
         begins = r.begins;
         promised = r.promised;
-        place = inr (id, v', seen.0, set_here s.views id v' (within s.views id v at), ap has_turn turn, seen.1);
+        place = inr (id, v', seen.0, set_here s.views id v' (within s.views id v at), ap has_turn turn, seen.1, seen.2);
         each = each_set (Fits M (fixed_of M k) t') s.views id v'
             (let z = r.each id v at in record {
               seen = z.seen;
               promised = z.promised;
               noticed = z.noticed;
               role = subst (FitsRole M (fixed_of M k) (record r.t { clear = cond (eqb (r.t.counted - g) 0) r.t.newest r.t.clear }) id v') (sym is)
-                  (h.0, h.1, h.2, h.3, h.4, h.5, h.6, (λ j. cond (eqb (h.6 j - g) 0) (h.4 j) (h.7 j)), h.8, h.9, h.10, h.11);
+                  (h.0, h.1, h.2, h.3, h.4, h.5, h.6, (λ j. cond (eqb (h.6 j - g) 0) (h.4 j) (h.7 j)), h.8, h.9, h.10, h.11, h.12, h.13);
             })
             (λ j u other e. let z = r.each j u e in record { seen = z.seen; promised = z.promised; noticed = z.noticed; role = others s r id v at is g j other u u.role z.role });
         unmade = r.unmade;

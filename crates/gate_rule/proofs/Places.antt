@@ -104,6 +104,15 @@ module _ {A : Type 0} where
   pub map_moved : {B : Type 0} (p : A → B) (l : List A) (i : ℕ) (y : A) (b : B) → p y ≡ b → map p (set l i y) ≡ set (map p l) i b
   map_moved p l i y b e = map-set p l i y ∙ ap (λ (z : _). set (map p l) i z) e
 
+  -- items of which no two have one key, and one more with a key of its own
+  pub once_more : (key : A → ℕ) (l : List A) (x : A) → ((i : ℕ) (e : A) → get_elem? l i ≡ some e → (j : ℕ) (u : A) → get_elem? l j ≡ some u → key e ≡ key u → i ≡ j)
+      → ((i : ℕ) (e : A) → get_elem? l i ≡ some e → key e ≢ key x)
+      → (i : ℕ) (e : A) → get_elem? (l ++ x ∷ []) i ≡ some e → (j : ℕ) (u : A) → get_elem? (l ++ x ∷ []) j ≡ some u → key e ≡ key u → i ≡ j
+  once_more key l x once fresh =
+      each_more (λ i (e : A). (j : ℕ) (u : A) → get_elem? (l ++ x ∷ []) j ≡ some u → key e ≡ key u → i ≡ j) l x
+      (each_more (λ j (u : A). key x ≡ key u → length l ≡ j) l x (λ _. refl) (λ j u there same. absurd (fresh j u there (sym same))))
+      (λ i e at. each_more (λ j (u : A). key e ≡ key u → i ≡ j) l x (λ same. absurd (fresh i e at same)) (λ j u there same. once i e at j u there same))
+
   pub same_place : (l : List A) (i : ℕ) (x y : A) → get_elem? l i ≡ some x → get_elem? l i ≡ some y → x ≡ y
   same_place l i x y a b = some-injective x y (sym a ∙ b)
 

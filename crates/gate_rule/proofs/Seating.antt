@@ -13,6 +13,7 @@ use Rattle.gate_rule.specs.declared.view.Ticket.TheVariants.{Without}
 use Rattle.gate_rule.specs.declared.view.Pass.TheVariants.{Out}
 use Rattle.gate_rule.specs.declared.view.Rights.{Rights}
 use Rattle.gate_rule.specs.declared.view.Ended.{Ended}
+use Rattle.gate_rule.specs.declared.view.Item.{Item}
 use Rattle.gate_rule.specs.declared.view.Fixed.{Fixed}
 use Rattle.gate_rule.specs.declared.view.View.{View}
 use Rattle.gate_rule.specs.declared.journal.Terms.{Terms}
@@ -21,8 +22,8 @@ use Rattle.gate_rule.specs.Meaning.{Means}
 use Rattle.gate_rule.specs.Tickets.{Tickets, FitsTicket, has_turn}
 use Rattle.gate_rule.specs.Passes.{Passes, FitsPass}
 use Rattle.gate_rule.specs.Views.{IsLive, is_caller}
-use Rattle.gate_rule.specs.Rule.{Kept, Truth, Fits, FitsRole, FitsEnded, IsHome, IsOut, role_of, ticket_of, rights_of, fixed_of}
-use Rattle.gate_rule.specs.Told.{IsOf, Closes}
+use Rattle.gate_rule.specs.Rule.{Kept, Truth, Fits, FitsRole, FitsEnded, IsHome, IsOut, IsOf, HasOf, IsTurn, role_of, ticket_of, rights_of, fixed_of}
+use Rattle.gate_rule.specs.Told.{Closes}
 use Rattle.gate_rule.proofs.Places.{each_set, map_kept, map_moved, same_place}
 use Rattle.gate_rule.proofs.Serving as serving
 use Rattle.gate_rule.proofs.Passing as passing
@@ -31,8 +32,8 @@ use Rattle.std.proofs.lemmas.List.Sums.{sum_by_push}
 use Rattle.atomic_table.specs.Table.{Splits, Joins, opening}
 use Rattle.atomic_table.proofs.Lists.{set_else, at_longer}
 use Rattle.gate_rule.specs.Views.{with_seat, new_seat, with_ended, spent_seat, first_seat, quota_in, caller_of, longer}
-use Rattle.gate_rule.proofs.Places.{put, put_here, put_else, sum_set, sum_at, each_more, map_more, kept_at}
-use Rattle.gate_rule.proofs.Histories.{controls_longer}
+use Rattle.gate_rule.proofs.Places.{put, put_here, put_else, sum_set, sum_at, each_more, once_more, map_more, kept_at}
+use Rattle.gate_rule.proofs.Histories.{controls_longer, longer_whole}
 use Rattle.gate_rule.proofs.Numbers.{admin_is, one_admin}
 use Rattle.gate_rule.proofs.Steps.{same_fixed}
 
@@ -96,10 +97,11 @@ module _ {V E D O : Type 0} (M : Means V E D O) (decides : D → Decisions) (k :
               (each_set (λ j (x : View E D O). has_turn x.ticket ≡ false) s.views id v' (p.3 id v at) (λ j x other e. p.3 j x e)),
           p.4,
           p.5,
+          p.6,
         ))
             (λ p.
-            let u = kept_at (λ (x : View E D O). (has_turn x.ticket ≡ true) × (x.seen ≡ r.t.log)) s.views id v v' at (λ (g : _). g) p.0 p.1 p.3 (p.4, p.5) in
-            inr (p.0, u.0, p.2, at_longer before (new ∷ []) p.0 u.0 u.1, u.2.0, u.2.1)) r.place;
+            let u = kept_at (λ (x : View E D O). (has_turn x.ticket ≡ true) × (x.seen ≡ r.t.log) × HasOf M (fixed_of M k) x) s.views id v v' at (λ (g : _). g) p.0 p.1 p.3 (p.4, p.5, p.6) in
+            inr (p.0, u.0, p.2, at_longer before (new ∷ []) p.0 u.0 u.1, u.2.0, u.2.1, u.2.2)) r.place;
         each = each_more (Fits M (fixed_of M k) t') before new
             (record { seen = (r.t.log, refl); promised = r.begins; noticed = omega arith; role = new_role r h named here })
             (each_set (Fits M (fixed_of M k) t') s.views id v'
@@ -108,7 +110,7 @@ module _ {V E D O : Type 0} (M : Means V E D O) (decides : D → Decisions) (k :
               promised = z.promised;
               noticed = z.noticed;
               role = subst (FitsRole M (fixed_of M k) (record r.t { made = r.t.made + 1; holder = put r.t.holder r.t.made here; live = put r.t.live r.t.made true }) id v') (sym is)
-                  (h.0, ap (λ (x : ℕ). x + 1) h.1, h.2, (λ i e there. ended_made r.t here e (h.3 i e there)), h.4, h.5, h.6, h.7, h.8, h.9, h.10, h.11);
+                  (h.0, ap (λ (x : ℕ). x + 1) h.1, h.2, (λ i e there. ended_made r.t here e (h.3 i e there)), h.4, h.5, h.6, h.7, h.8, h.9, h.10, h.11, h.12, h.13);
             })
             (λ j u other e. let z = r.each j u e in record {
               seen = z.seen;
@@ -147,10 +149,17 @@ module _ {V E D O : Type 0} (M : Means V E D O) (decides : D → Decisions) (k :
       go true e = controls_longer M.kind log a b pa pb (leb-true (length a) (length b) e) same
       go false e = refl
 
+  -- with the turn, the administrator has seen all already
+  all_seen : (f : Fixed D O) (v w : View E D O) (log : List E) → StartsWith log w.seen → (has_turn v.ticket ≡ true) × (v.seen ≡ log) × HasOf M f v
+      → (has_turn v.ticket ≡ true) × (longer v.seen w.seen ≡ log) × HasOf M f (with_ended v w)
+  all_seen f v w log begins g =
+      let same : longer v.seen w.seen ≡ log = longer_whole log v.seen w.seen begins g.1 in
+      (g.0, same, (g.2.0, g.2.1, g.2.2 ∙ (g.1 ∙ sym same), g.2.3, g.2.4))
+
   -- retiring a seat
-  pub retire : (id : ℕ) (v : View E D O) (other : ℕ) (w : View E D O) (n : ℕ) → v.role ≡ Admin → v.ticket ≡ Without → w.role ≡ Caller n → w.ticket ≡ Without → w.rights.pass ≡ Out
+  pub retire : (id : ℕ) (v : View E D O) (other : ℕ) (w : View E D O) (n : ℕ) → v.role ≡ Admin → w.role ≡ Caller n → w.ticket ≡ Without → w.rights.pass ≡ Out
       → Joins (Kept M decides k) id v other w (with_ended v w) spent_seat
-  retire id v other w n is idle caller waits out s r at apart there =
+  retire id v other w n is caller waits out s r at apart there =
       let h = admin_is M decides k s r id v at is in
       let v' = with_ended v w in
       let spent : View E D O = spent_seat in
@@ -165,7 +174,6 @@ module _ {V E D O : Type 0} (M : Means V E D O) (decides : D → Decisions) (k :
       let rights_are : map rights_of (set before other spent) ≡ set (map rights_of s.views) other (record { pass = Out; quota = 0 }) = map_moved rights_of before other spent (record { pass = Out; quota = 0 }) refl ∙ ap (λ (l : List Rights). set l other (record { pass = Out; quota = 0 })) rights_in in
       let roles_in : map role_of before ≡ map role_of s.views = map_kept role_of s.views id v v' at refl in
       let roles_are : map role_of (set before other spent) ≡ set (map role_of s.views) other Spent = map_moved role_of before other spent Spent refl ∙ ap (λ (l : List Role). set l other Spent) roles_in in
-      let no_turn_here : has_turn v.ticket ≡ false = ap has_turn idle in
       record {
         t = t';
         wide = r.wide;
@@ -178,8 +186,8 @@ module _ {V E D O : Type 0} (M : Means V E D O) (decides : D → Decisions) (k :
         rows = r.rows;
         acknowledged = r.acknowledged;
         noticed = ⊎_elim (λ e. inl e) (λ p.
-            let e : p.0 ≡ v = same_place s.views id p.0 v (subst (λ (j : ℕ). get_elem? s.views j ≡ some p.0) (sym h.0) p.1) at in
-            let turn : has_turn v.ticket ≡ true = subst (λ (x : View E D O). has_turn x.ticket ≡ true) e p.2 in absurd (cc)) r.noticed;
+            let u = kept_at (λ (x : View E D O). (has_turn x.ticket ≡ true) × (x.role ≡ Admin)) s.views id v v' at (λ (g : _). g) 0 p.0 p.1 (p.2, p.3) in
+            inr (u.0, set_else before other 0 spent (λ e. apart (sym e ∙ sym h.0)) ∙ u.1, u.2.0, u.2.1, p.4, p.5)) r.noticed;
         dated = r.dated;
         begins = r.begins;
         promised = r.promised;
@@ -189,15 +197,17 @@ module _ {V E D O : Type 0} (M : Means V E D O) (decides : D → Decisions) (k :
               p.1,
               p.2,
               each_set (λ j (x : View E D O). has_turn x.ticket ≡ false) before other spent refl
-                  (λ j x ne e. each_set (λ j (x : View E D O). has_turn x.ticket ≡ false) s.views id v' no_turn_here (λ j x ne e. p.3 j x e) j x e),
+                  (λ j x ne e. each_set (λ j (x : View E D O). has_turn x.ticket ≡ false) s.views id v' (p.3 id v at) (λ j x ne e. p.3 j x e) j x e),
               p.4,
               p.5,
+              p.6,
             ))
             (λ p.
-            let not_id : p.0 ≢ id = λ e. let z : p.1 ≡ v = same_place s.views id p.1 v (subst (λ (j : ℕ). get_elem? s.views j ≡ some p.1) e p.3) at in let turn : has_turn v.ticket ≡ true = subst (λ (x : View E D O). has_turn x.ticket ≡ true) z p.4 in absurd (cc) in
+            let u = kept_at (λ (x : View E D O). (has_turn x.ticket ≡ true) × (x.seen ≡ r.t.log) × HasOf M (fixed_of M k) x) s.views id v v' at
+            (all_seen (fixed_of M k) v w r.t.log fit.seen) p.0 p.1 p.3 (p.4, p.5, p.6) in
             let not_other : p.0 ≢ other = λ e. let z : p.1 ≡ w = same_place s.views other p.1 w (subst (λ (j : ℕ). get_elem? s.views j ≡ some p.1) e p.3) old in
             let turn : has_turn w.ticket ≡ true = subst (λ (x : View E D O). has_turn x.ticket ≡ true) z p.4 in let no : has_turn w.ticket ≡ false = ap has_turn waits in absurd (cc) in
-            inr (p.0, p.1, p.2, set_else before other p.0 spent not_other ∙ (set_else s.views id p.0 v' not_id ∙ p.3), p.4, p.5)) r.place;
+            inr (p.0, u.0, p.2, set_else before other p.0 spent not_other ∙ u.1, u.2.0, u.2.1, u.2.2)) r.place;
         each = each_set (Fits M (fixed_of M k) t') before other spent
             (record { seen = (r.t.log, refl); promised = r.begins; noticed = omega arith; role = (refl, refl) })
             (λ j u ne e. each_set (λ j (u : View E D O). j ≢ other → Fits M (fixed_of M k) t' j u) s.views id v'
@@ -221,6 +231,9 @@ module _ {V E D O : Type 0} (M : Means V E D O) (decides : D → Decisions) (k :
                 longer_controls r.t.log v.seen w.seen mine.seen fit.seen (h.8 ∙ sym h.9) ∙ h.9,
                 h.10,
                 h.11,
+                h.12,
+                once_more (λ (e : Ended E). e.number) v.desk.ended (record { number = caller_of w.role; entries = w.mine }) h.13
+                    (λ i e at_i q. let a : r.t.live e.number ≡ true = ap r.t.live (q ∙ ap caller_of caller) ∙ own.2 in let b = (h.3 i e at_i).1 in absurd (cc)),
               );
             })
             (λ j u not_id e not_other. let z = r.each j u e in record {
@@ -233,10 +246,10 @@ module _ {V E D O : Type 0} (M : Means V E D O) (decides : D → Decisions) (k :
       }
 
   -- the table at the start
-  pub opens : (ws : List ℕ) (x : V) → length ws ≡ 517 → ((i : ℕ) → get_or ws i 0 ≡ 0) → x ≡ k.first.value → M.history x ≡ [] → M.decider x ≡ k.decider.value → M.promise (M.opening x) k.decider.value []
+  pub opens : (ws : List ℕ) (x : V) → length ws ≡ 517 → ((i : ℕ) → get_or ws i 0 ≡ 0) → x ≡ k.first.value → M.history x ≡ [] → M.decider x ≡ k.decider.value → M.promise (M.opening x) k.decider.value [] → M.keeps x
       → (0 < (decides k.decider.value).versions) × ((decides k.decider.value).versions ≤ 256) → k.seats ≤ 64 → k.quota ≤ 536870912 → k.most < 1048576
       → Kept M decides k (opening ws (Some x ∷ []) (first_seat (fixed_of M k)))
-  opens ws x wide empty first fresh decider promise versions seats quota most =
+  opens ws x wide empty first fresh decider promise keeps versions seats quota most =
       let f = fixed_of M k in
       let begins : M.promise (fixed_of M k).opening (fixed_of M k).decider [] = subst (λ (o : O). M.promise o k.decider.value []) (ap M.opening first) promise in
       record {
@@ -262,9 +275,9 @@ module _ {V E D O : Type 0} (M : Means V E D O) (decides : D → Decisions) (k :
         dated = record { within = (omega arith, most); bounds = versions.1; known = λ m le. versions.0; told = λ m lt. absurd (omega arith) };
         begins = begins;
         promised = begins;
-        place = inl (x, refl, fresh, one_only (λ j (u : View E D O). has_turn u.ticket ≡ false) (first_seat (fixed_of M k)) refl, ap M.opening first, decider);
+        place = inl (x, refl, fresh, one_only (λ j (u : View E D O). has_turn u.ticket ≡ false) (first_seat (fixed_of M k)) refl, ap M.opening first, decider, keeps);
         each = one_only (Fits M (fixed_of M k) (record { log = []; made = 0; gone = 0; holder = λ n. 0; live = λ n. false; newest = 0; settled = 0; counted = 0; clear = 0; forced = 0; version = λ n. 0 })) (first_seat (fixed_of M k))
-            (record { seen = ([], refl); promised = begins; noticed = omega arith; role = (refl, refl, refl, (λ i e there. absurd (some-ne-none e (sym there))), refl, refl, refl, refl, refl, refl, refl, refl) });
+            (record { seen = ([], refl); promised = begins; noticed = omega arith; role = (refl, refl, refl, (λ i e there. absurd (some-ne-none e (sym there))), refl, refl, refl, refl, refl, refl, refl, refl, (λ i turn there. absurd (some-ne-none turn (sym there))), (λ i e there. absurd (some-ne-none e (sym there)))) });
         unmade = λ n le. refl;
       }
 
@@ -288,19 +301,24 @@ module _ {V E D O : Type 0} (M : Means V E D O) (decides : D → Decisions) (k :
       last : last_notice M.kind r.t.log ≡ (r.t.newest, r.t.version r.t.newest)
       last = ⊎_elim (λ e. e) (λ p. let o : has_turn p.0.ticket ≡ false = nobody 0 p.0 p.1 p.0.role refl (r.each 0 p.0 p.1).role in let t = p.2 in absurd (cc)) r.noticed
 
+      same : (f : Fixed D O) → v.fixed ≡ Some f → fixed_of M k ≡ f
+      same f e = same_fixed M decides k s r id v at (subst IsLive (sym is) tt) f e
+
       home : IsHome M (fixed_of M k) s.homes r.t.log s.views → (x : V) × (s.homes ≡ some (Some x) ∷ []) × Closes M v x
       home p = (
         p.0,
         p.1,
-        (
-          (λ f e. let same : fixed_of M k ≡ f = same_fixed M decides k s r id v at (subst IsLive (sym is) tt) f e in
-              subst (λ (y : Fixed D O). IsOf M y p.0) same (p.4, p.5, subst (M.promise (fixed_of M k).opening (fixed_of M k).decider) (sym p.2) r.promised)),
-          ap (controls M.kind) p.2 ∙ h.8,
-          (λ i e there. (h.3 i e there).2 ∙ ap (of_caller M.kind e.number) (sym p.2)),
-          subst (λ (l : List E). StartsWith l v.seen) (sym p.2) (r.each id v at).seen,
-          ap (last_notice M.kind) p.2 ∙ (last ∙ (λ i. (sym h.4 i, sym h.5 i))),
-        ),
+        record {
+          value = λ f e. subst (λ (y : Fixed D O). IsOf M y p.0) (same f e) (p.4, p.5, subst (M.promise (fixed_of M k).opening (fixed_of M k).decider) (sym p.2) r.promised, p.6);
+          controls_are = ap (controls M.kind) p.2 ∙ h.8;
+          turns = λ f e. subst (λ (y : Fixed D O). (i : ℕ) (turn : Item E) → get_elem? v.desk.turns i ≡ some turn → IsTurn M y turn) (same f e) h.12;
+          ended = λ i e there. let z = h.3 i e there in ((let a = z.0 in let b = h.1 in omega arith), z.2 ∙ ap (of_caller M.kind e.number) (sym p.2));
+          once = h.13;
+          unmade = λ n le. ap (of_caller M.kind n) p.2 ∙ r.unmade n (let b = h.1 in omega arith);
+          seen = subst (λ (l : List E). StartsWith l v.seen) (sym p.2) (r.each id v at).seen;
+          last = ap (last_notice M.kind) p.2 ∙ (last ∙ (λ i. (sym h.4 i, sym h.5 i)));
+        },
       )
 
-      out : IsOut s.homes r.t.log s.views → (x : V) × (s.homes ≡ some (Some x) ∷ []) × Closes M v x
+      out : IsOut M (fixed_of M k) s.homes r.t.log s.views → (x : V) × (s.homes ≡ some (Some x) ∷ []) × Closes M v x
       out p = let o : has_turn p.1.ticket ≡ false = nobody p.0 p.1 p.3 p.1.role refl (r.each p.0 p.1 p.3).role in let t = p.4 in absurd (cc)

@@ -25,7 +25,7 @@ use Rattle.gate_rule.specs.Tickets.{Tickets, has_turn}
 use Rattle.gate_rule.specs.Passes.{Passes, FitsPass}
 use Rattle.gate_rule.specs.Rows.{Rows, FitsRow, shows, key_row, IsKey}
 use Rattle.gate_rule.specs.Views.{IsLive, is_caller, number_in, version_in, number_of, pass_version, one_more, leave_word, done, traced, saw_row}
-use Rattle.gate_rule.specs.Rule.{Kept, Truth, Fits, FitsRole, role_of, ticket_of, rights_of, fixed_of}
+use Rattle.gate_rule.specs.Rule.{Kept, Truth, Fits, FitsRole, HasOf, role_of, ticket_of, rights_of, fixed_of}
 use Rattle.gate_rule.specs.Told.{Stands, IsPassFor, enters, leaves, draws, sees_row, fills_row}
 use Rattle.gate_rule.proofs.Places.{each_set, kept_at, map_kept, map_moved, word_else, word_here, word_same}
 use Rattle.gate_rule.proofs.Serving as serving
@@ -58,7 +58,7 @@ module _ {V E D O : Type 0} (M : Means V E D O) (decides : D → Decisions) (k :
       → FitsRole M (fixed_of M k) t id v role → FitsRole M (fixed_of M k) t id (changed v x y z q) role
   role_stays t id v x y z q Spent alive out h = absurd alive
   role_stays t id v x y z q (Caller n) alive out h = h
-  role_stays t id v x y z q Admin alive out h = (h.0, h.1, h.2, h.3, h.4, h.5, h.6, h.7, h.8, h.9, h.10, out refl)
+  role_stays t id v x y z q Admin alive out h = (h.0, h.1, h.2, h.3, h.4, h.5, h.6, h.7, h.8, h.9, h.10, out refl, h.12, h.13)
 
   -- a step that changes one seat's ticket, but not whether it has the turn, its rights, its trace and the keys served
   pub light : (s : State (Option V) (View E D O)) (r : Kept M decides k s) (id : ℕ) (v : View E D O) → get_elem? s.views id ≡ some v
@@ -85,10 +85,10 @@ module _ {V E D O : Type 0} (M : Means V E D O) (decides : D → Decisions) (k :
         dated = r.dated;
         begins = r.begins;
         promised = r.promised;
-        place = ⊎_elim (λ h. inl (h.0, h.1, h.2, each_set (λ j (u : View E D O). has_turn u.ticket ≡ false) s.views id w (turn ∙ h.3 id v at) (λ j u other e. h.3 j u e), h.4, h.5))
+        place = ⊎_elim (λ h. inl (h.0, h.1, h.2, each_set (λ j (u : View E D O). has_turn u.ticket ≡ false) s.views id w (turn ∙ h.3 id v at) (λ j u other e. h.3 j u e), h.4, h.5, h.6))
             (λ h.
-            let u = kept_at (λ (u : View E D O). (has_turn u.ticket ≡ true) × (u.seen ≡ r.t.log)) s.views id v w at (λ (g : _). (turn ∙ g.0, g.1)) h.0 h.1 h.3 (h.4, h.5) in
-            inr (h.0, u.0, h.2, u.1, u.2.0, u.2.1)) r.place;
+            let u = kept_at (λ (u : View E D O). (has_turn u.ticket ≡ true) × (u.seen ≡ r.t.log) × HasOf M (fixed_of M k) u) s.views id v w at (λ (g : _). (turn ∙ g.0, g.1, g.2)) h.0 h.1 h.3 (h.4, h.5, h.6) in
+            inr (h.0, u.0, h.2, u.1, u.2.0, u.2.1, u.2.2)) r.place;
         each = each_set (Fits M (fixed_of M k) r.t) s.views id w
             (let f = r.each id v at in record { seen = f.seen; promised = f.promised; noticed = f.noticed; role = role_stays r.t id v x y z q v.role alive out f.role })
             (λ j u other e. r.each j u e);

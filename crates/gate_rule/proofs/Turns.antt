@@ -25,8 +25,8 @@ use Rattle.gate_rule.specs.Tickets.{Tickets, has_turn, word_of}
 use Rattle.gate_rule.specs.Passes.{Passes, FitsPass}
 use Rattle.gate_rule.specs.Rows.{Rows}
 use Rattle.gate_rule.specs.Views.{IsLive, is_caller, done, traced, missed, took}
-use Rattle.gate_rule.specs.Rule.{Kept, Fits, FitsRole, IsHome, role_of, ticket_of, rights_of, fixed_of}
-use Rattle.gate_rule.specs.Told.{IsAllowed, Learns, IsOf, polls}
+use Rattle.gate_rule.specs.Rule.{Kept, Fits, FitsRole, IsHome, IsOf, HasOf, role_of, ticket_of, rights_of, fixed_of}
+use Rattle.gate_rule.specs.Told.{IsAllowed, Learns, polls}
 use Rattle.gate_rule.proofs.Places.{each_set, map_kept, map_moved, within, word_same, same_place}
 use Rattle.gate_rule.proofs.Serving as serving
 use Rattle.gate_rule.proofs.Histories.{begins_here, version_last}
@@ -61,20 +61,20 @@ module _ {V E D O : Type 0} (M : Means V E D O) (decides : D → Decisions) (k :
       (let b = r.passes.between in let a = r.acknowledged.0 in let c = h.4 in dite (ℕ_discrete r.t.settled r.t.newest) (λ e. inl (a ∙ (e ∙ sym c))) (λ ne. inr (omega arith))),
     )
 
-    -- the seat with the turn has seen all, and the slot is out
-    pub has_seen : (id : ℕ) (v : View E D O) (w : ℕ) → get_elem? s.views id ≡ some v → v.ticket ≡ Served w → (s.homes ≡ none ∷ []) × (v.seen ≡ r.t.log)
+    -- the seat with the turn has seen all, the slot is out, and what the seat says of the value is true of the one that it took
+    pub has_seen : (id : ℕ) (v : View E D O) (w : ℕ) → get_elem? s.views id ≡ some v → v.ticket ≡ Served w → (s.homes ≡ none ∷ []) × (v.seen ≡ r.t.log) × HasOf M (fixed_of M k) v
     has_seen id v w at turn =
         ⊎_elim (λ h. let z : has_turn v.ticket ≡ false = h.3 id v at in let o : has_turn v.ticket ≡ true = ap has_turn turn in absurd (cc))
         (λ h.
         let e : h.0 ≡ id = serving.alone (map ticket_of s.views) (get_or s.words 3 0) (get_or s.words 4 0) id h.0 w h.1.ticket r.tickets (at_map ticket_of s.views id v at ∙ ap some turn) (at_map ticket_of s.views h.0 h.1 h.3) h.4 in
         let u : h.1 ≡ v = same_place s.views id h.1 v (subst (λ (j : ℕ). get_elem? s.views j ≡ some h.1) e h.3) at in
-        (h.2, ap (λ (x : View E D O). x.seen) (sym u) ∙ h.5)) r.place
+        (h.2, ap (λ (x : View E D O). x.seen) (sym u) ∙ h.5, subst (HasOf M (fixed_of M k)) u h.6)) r.place
 
     -- what a seat is, once it has the turn with the history that counts
     role_taken : (id : ℕ) (v : View E D O) (x : V) (n : ℕ) → M.history x ≡ r.t.log → (role : Role) → IsLive role → FitsRole M (fixed_of M k) r.t id v role → FitsRole M (fixed_of M k) r.t id (took M x v n) role
     role_taken id v x n hist Spent alive h = absurd alive
     role_taken id v x n hist (Caller m) alive h = h
-    role_taken id v x n hist Admin alive h = (h.0, h.1, h.2, h.3, h.4, h.5, h.6, h.7, h.8, ap (controls M.kind) hist ∙ h.8, h.10, h.11)
+    role_taken id v x n hist Admin alive h = (h.0, h.1, h.2, h.3, h.4, h.5, h.6, h.7, h.8, ap (controls M.kind) hist ∙ h.8, h.10, h.11, h.12, h.13)
 
   -- looking at the ticket served: one load of word 4
   pub poll : (slots id : ℕ) (me : Me (Option V) (View E D O)) (w : ℕ) → IsLive me.0.role → me.0.ticket ≡ Drawn w → me.1 ≡ []
@@ -111,7 +111,8 @@ module _ {V E D O : Type 0} (M : Means V E D O) (decides : D → Decisions) (k :
           home h =
               let x = h.0 in
               let hist : M.history x ≡ r.t.log = h.2 in
-              let w' = took M x me.0 (get_or s.words 4 0) in (
+              let w' = took M x me.0 (get_or s.words 4 0) in
+              let is_of : IsOf M (fixed_of M k) x = (h.4, h.5, subst (M.promise (fixed_of M k).opening (fixed_of M k).decider) (sym hist) r.promised, h.6) in (
                 w',
                 takes 0 (Some x),
                 ap (λ (hs : List (maybe.Option (Option V))). get_elem? hs 0) h.1,
@@ -131,7 +132,7 @@ module _ {V E D O : Type 0} (M : Means V E D O) (decides : D → Decisions) (k :
                   dated = r.dated;
                   begins = r.begins;
                   promised = r.promised;
-                  place = inr (id, w', ap (λ (hs : List (maybe.Option (Option V))). set hs 0 none) h.1, set_here s.views id w' (within s.views id me.0 at), refl, hist);
+                  place = inr (id, w', ap (λ (hs : List (maybe.Option (Option V))). set hs 0 none) h.1, set_here s.views id w' (within s.views id me.0 at), refl, hist, (x, is_of, refl, refl, refl));
                   each = each_set (Fits M (fixed_of M k) r.t) s.views id w'
                       (record {
                         seen = subst (StartsWith r.t.log) (sym hist) (begins_here r.t.log);
@@ -149,7 +150,7 @@ module _ {V E D O : Type 0} (M : Means V E D O) (decides : D → Decisions) (k :
                     (
                       subst (λ (l : List E). StartsWith l me.0.seen) (sym hist) (r.each id me.0 at).seen,
                       subst (Learns M.kind me.0 me.0.role) (sym hist) (learns s r last id me.0 at me.0.role (r.each id me.0 at).role),
-                      (λ f e. subst (λ (y : Fixed D O). IsOf M y x) (same_fixed M decides k s r id me.0 at alive f e) (h.4, h.5, subst (M.promise (fixed_of M k).opening (fixed_of M k).decider) (sym hist) r.promised)),
+                      (λ f e. subst (λ (y : Fixed D O). IsOf M y x) (same_fixed M decides k s r id me.0 at alive f e) is_of),
                     ),
                   )),
                   (λ ne. absurd (ne (same ∙ sym (ap word_of waits)))),

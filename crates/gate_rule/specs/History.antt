@@ -1,6 +1,9 @@
 -- What the gate reads in a history: callers' entries, notices and acknowledgements.
 use Rattle.std.specs.Prelude.{◌≡◌, ℕ, ◌+◌, ◌<◌, ◌==◌, Bool, true, false, cond, max, List, [], ◌∷◌, ◌++◌}
 use Rattle.std.specs.List.{fold, filter}
+use Rattle.access_vectors.specs.declared.phase.Phase.{Phase}
+use Rattle.access_vectors.specs.declared.phase.Phase.TheVariants.{Settled}
+use Rattle.access_vectors.specs.Phases as phases
 
 -- the three kinds of entry: a call by a caller with its mark under a policy number; the notice of a number and its version; the acknowledgement of a number, and whether it is forced
 pub data Kind : Type 0 where
@@ -45,6 +48,12 @@ dated m v (Call caller mark number) = v
 dated m v (Notice number version) = cond (number == m) version v
 dated m v (Ack number forced) = v
 
+-- the phase of the policy change after one more entry
+abbrev pub phase_after : Phase → Kind → Phase
+phase_after phase (Call caller mark number) = phase
+phase_after phase (Notice number version) = phases.noticed phase number version
+phase_after phase (Ack number forced) = phases.acknowledged phase
+
 -- whether an entry of this kind may come: a notice of the next number where all is settled, an acknowledgement of a number that is pending, and a call at any time
 abbrev pub MayCome : ℕ → ℕ → ℕ → Kind → Type 0
 MayCome versions a c (Call caller mark number) = Unit {0}
@@ -75,6 +84,10 @@ module _ {E : Type 0} (kind : E → Kind) where
   -- the version of the number m, that of its notice, or 0
   abbrev pub version_of : ℕ → List E → ℕ
   version_of m log = fold (λ v e. dated m v (kind e)) 0 log
+
+  -- where the policy change stands after a history
+  abbrev pub phase_in : List E → Phase
+  phase_in log = fold (λ phase e. phase_after phase (kind e)) (Settled 0 0) log
 
   -- each entry may come where it stands
   abbrev pub Alternates : ℕ → ℕ → ℕ → List E → Type 0

@@ -1,6 +1,7 @@
--- The rule of a gate, in eight parts: entry budget, passes counted and pass numbers (`passes`), cached rows (`rows`), the turn (`tickets`, `place`), the value at rest (`noticed`, `dated`, `place`), the histories seen (`each`, `promised`, `unmade`) and clearance (in `passes`).
+-- The rule of a gate, in eight parts: entry budget, passes counted and pass numbers (`passes`), cached rows (`rows`), the turn (`tickets`, `place`), the value at rest and the one that is out (`noticed`, `dated`, `place`), the histories seen (`each`, `promised`, `unmade`) and clearance (in `passes`).
 use Rattle.std.specs.Prelude.{◌≡◌, ℕ, ◌+◌, ◌-◌, ◌*◌, ◌<◌, ◌≤◌, ◌⊎◌, Bool, true, false, List, [], ◌∷◌, map, length, slice_index, Option, Some}
 use Rattle.std.specs.List.{sum_by}
+use Rattle.std.specs.FinMap as maps
 use mathlib.Core.Option.{some, none}
 use mathlib.Core.Option as maybe
 use lib.ListN.{get_elem?}
@@ -12,6 +13,7 @@ use Rattle.gate_rule.specs.declared.view.Ticket.{Ticket}
 use Rattle.gate_rule.specs.declared.view.Rights.{Rights}
 use Rattle.gate_rule.specs.declared.view.Pass.TheVariants.{Out}
 use Rattle.gate_rule.specs.declared.view.Ended.{Ended}
+use Rattle.gate_rule.specs.declared.view.Item.{Item}
 use Rattle.gate_rule.specs.declared.view.Fixed.{Fixed}
 use Rattle.gate_rule.specs.declared.view.View.{View}
 use Rattle.gate_rule.specs.declared.journal.Terms.{Terms}
@@ -20,7 +22,11 @@ use Rattle.gate_rule.specs.Meaning.{Means}
 use Rattle.gate_rule.specs.Tickets.{Tickets, has_turn}
 use Rattle.gate_rule.specs.Passes.{Passes}
 use Rattle.gate_rule.specs.Rows.{Rows}
-use Rattle.gate_rule.specs.Views.{is_caller, entries_of}
+use Rattle.gate_rule.specs.Views.{is_caller, entry_added, entries_of}
+
+-- no number was retired twice
+abbrev pub AreOnce : {E : Type 0} → List (Ended E) → Type 0
+AreOnce {E} ended = (i : ℕ) (e : Ended E) → get_elem? ended i ≡ some e → (j : ℕ) (u : Ended E) → get_elem? ended j ≡ some u → e.number ≡ u.number → i ≡ j
 
 -- what no seat knows whole: the history that counts, the numbers made and retired, which seat each number belongs to and whether it is in use, and the policy numbers
 pub record Truth (E : Type 0) : Type 0 where
@@ -58,11 +64,25 @@ module _ {V E D O : Type 0} (M : Means V E D O) where
   abbrev pub fixed_of : Terms V D → Fixed D O
   fixed_of k = record { decider = k.decider.value; opening = M.opening k.first.value; seats = k.seats; quota = k.quota; most = k.most }
 
+  -- a value with the gate's opening and decider, whose history its type promises, and which itself is as its type promises
+  abbrev pub IsOf : Fixed D O → V → Type 0
+  IsOf f x = (M.opening x ≡ f.opening) × (M.decider x ≡ f.decider) × M.promise f.opening f.decider (M.history x) × M.keeps x
+
+  -- what a seat with the turn says of the value is true of the one that it took: its history, what its slots follow, and how many are stale
+  abbrev pub HasOf : Fixed D O → View E D O → Type 0
+  HasOf f v = (x : V) × IsOf f x × (M.history x ≡ v.seen) × (v.follows ≡ maps.entries (M.follows x)) × (v.desk.found ≡ length (M.stale x))
+
+  -- what an item of the administrator's turns says is true of the value that was taken in that turn and of the one that was given back: the entry between them, and how many slots of each are stale
+  abbrev pub IsTurn : Fixed D O → Item E → Type 0
+  IsTurn f i =
+      (x : V) × (y : V) × IsOf f x × IsOf f y × (i.entry ≡ entry_added (M.history x) (M.history y))
+      × (i.found ≡ length (M.stale x)) × (i.left ≡ length (M.stale y))
+
   -- a retired number's entries are those of the history that counts
   abbrev pub FitsEnded : Truth E → Ended E → Type 0
   FitsEnded t e = (e.number < t.made) × (t.live e.number ≡ false) × (e.entries ≡ of_caller M.kind e.number t.log)
 
-  -- what a seat knows by what it is: a caller has a number of its own and knows its own entries; the administrator is the first seat, and knows the numbers, the retired callers' entries and every notice and acknowledgement
+  -- what a seat knows by what it is: a caller has a number of its own and knows its own entries; the administrator is the first seat, and knows the numbers, the retired callers' entries, each number once, every notice and acknowledgement, and what it found and left in each turn
   abbrev pub FitsRole : Fixed D O → Truth E → ℕ → View E D O → Role → Type 0
   FitsRole f t seat v Spent = (has_turn v.ticket ≡ false) × (v.rights.pass ≡ Out)
   FitsRole f t seat v (Caller n) = (n < t.made) × (t.holder n ≡ seat) × (t.live n ≡ true) × (v.mine ≡ of_caller M.kind n t.log) × (v.fixed ≡ Some f)
@@ -71,6 +91,7 @@ module _ {V E D O : Type 0} (M : Means V E D O) where
       × ((k : ℕ) (e : Ended E) → get_elem? v.desk.ended k ≡ some e → FitsEnded t e)
       × (v.desk.newest ≡ t.newest) × (v.desk.version ≡ t.version t.newest) × (v.desk.counted ≡ t.counted) × (v.desk.clear ≡ t.clear)
       × (controls M.kind t.log ≡ entries_of v.desk.turns) × (controls M.kind v.seen ≡ entries_of v.desk.turns) × (v.fixed ≡ Some f) × (v.rights.pass ≡ Out)
+      × ((i : ℕ) (turn : Item E) → get_elem? v.desk.turns i ≡ some turn → IsTurn f turn) × AreOnce v.desk.ended
 
   -- what a seat has seen is how the history begins, meets the promise, and notices no number beyond the newest
   pub record Fits (f : Fixed D O) (t : Truth E) (seat : ℕ) (v : View E D O) : Type 0 where
@@ -85,14 +106,14 @@ module _ {V E D O : Type 0} (M : Means V E D O) where
       (last_notice M.kind t.log ≡ (t.newest, t.version t.newest))
       ⊎ ((v : View E D O) × (get_elem? views 0 ≡ some v) × (has_turn v.ticket ≡ true) × (v.role ≡ Admin) × ((last_notice M.kind t.log).0 ≡ t.settled) × (t.newest ≡ t.settled + 1))
 
-  -- the value is in the slot, with the history that counts
+  -- the value is in the slot, with the history that counts, and is as its type promises
   abbrev pub IsHome : Fixed D O → List (maybe.Option (Option V)) → List E → List (View E D O) → Type 0
-  IsHome f homes log views = (x : V) × (homes ≡ some (Some x) ∷ []) × (M.history x ≡ log) × NoTurn views × (M.opening x ≡ f.opening) × (M.decider x ≡ f.decider)
+  IsHome f homes log views = (x : V) × (homes ≡ some (Some x) ∷ []) × (M.history x ≡ log) × NoTurn views × (M.opening x ≡ f.opening) × (M.decider x ≡ f.decider) × M.keeps x
 
--- a seat has the turn and the slot, and has seen all
-abbrev pub IsOut : {V E D O : Type 0} → List (maybe.Option (Option V)) → List E → List (View E D O) → Type 0
-IsOut {E = E} {D = D} {O = O} homes log views =
-    (seat : ℕ) × (v : View E D O) × (homes ≡ none ∷ []) × (get_elem? views seat ≡ some v) × (has_turn v.ticket ≡ true) × (v.seen ≡ log)
+  -- a seat has the turn and the slot, has seen all, and what it says of the value is true of the one that it took
+  abbrev pub IsOut : Fixed D O → List (maybe.Option (Option V)) → List E → List (View E D O) → Type 0
+  IsOut f homes log views =
+      (seat : ℕ) × (v : View E D O) × (homes ≡ none ∷ []) × (get_elem? views seat ≡ some v) × (has_turn v.ticket ≡ true) × (v.seen ≡ log) × HasOf f v
 
 -- policy numbers are at most the most, their versions are the decider's, and each but the newest has the version of its notice
 pub record Dated (versions most : ℕ) (said : ℕ → ℕ) (newest : ℕ) (version : ℕ → ℕ) : Type 0 where
@@ -118,6 +139,6 @@ module _ {V E D O : Type 0} (M : Means V E D O) (decides : D → Decisions) wher
     pub dated : Dated (decides (fixed_of M k).decider).versions (fixed_of M k).most (λ m. version_of M.kind m t.log) t.newest t.version
     pub begins : M.promise (fixed_of M k).opening (fixed_of M k).decider []
     pub promised : M.promise (fixed_of M k).opening (fixed_of M k).decider t.log
-    pub place : IsHome M (fixed_of M k) s.homes t.log s.views ⊎ IsOut s.homes t.log s.views
+    pub place : IsHome M (fixed_of M k) s.homes t.log s.views ⊎ IsOut M (fixed_of M k) s.homes t.log s.views
     pub each : (j : ℕ) (v : View E D O) → get_elem? s.views j ≡ some v → Fits M (fixed_of M k) t j v
     pub unmade : (n : ℕ) → t.made ≤ n → of_caller M.kind n t.log ≡ []

@@ -11,6 +11,7 @@ use Rattle.gate_rule.specs.declared.view.Pass.{Pass}
 use Rattle.gate_rule.specs.declared.view.Pass.TheVariants.{Out, Inside}
 use Rattle.gate_rule.specs.declared.view.Key.{Key}
 use Rattle.gate_rule.specs.declared.view.Ended.{Ended}
+use Rattle.gate_rule.specs.declared.view.Item.{Item}
 use Rattle.gate_rule.specs.declared.view.Fixed.{Fixed}
 use Rattle.gate_rule.specs.declared.view.View.{View}
 use Rattle.gate_rule.specs.declared.journal.Terms.{Terms}
@@ -20,7 +21,7 @@ use Rattle.gate_rule.specs.Meaning.{Means}
 use Rattle.gate_rule.specs.Tickets.{word_of}
 use Rattle.gate_rule.specs.Rows.{shows}
 use Rattle.gate_rule.specs.Views.{entered, left, drawn, missed, took, gave, raised, counted, saw_row, filled, glanced, number_in, version_in, passes_in, number_of, pass_version, entries_of}
-use Rattle.gate_rule.specs.Rule.{Kept, fixed_of}
+use Rattle.gate_rule.specs.Rule.{Kept, IsOf, IsTurn, AreOnce, fixed_of}
 
 -- a pass under what the gate fixes: its version is one of the decider's, and its number at most the most
 abbrev pub IsPassFor : {D O : Type 0} → (D → Decisions) → Fixed D O → ℕ → ℕ → Type 0
@@ -52,20 +53,24 @@ module _ {E D O : Type 0} (kind : E → Kind) where
   Extends v log = ((log ≡ v.seen) ⊎ ((e : E) × (log ≡ v.seen ++ e ∷ []) × IsOwn v v.role e)) × (v.role ≡ Admin → last_notice kind log ≡ (v.desk.newest, v.desk.version))
 
 module _ {V E D O : Type 0} (M : Means V E D O) where
-  -- a value with the gate's opening and decider, whose history its type promises
-  abbrev pub IsOf : Fixed D O → V → Type 0
-  IsOf f x = (M.opening x ≡ f.opening) × (M.decider x ≡ f.decider) × M.promise f.opening f.decider (M.history x)
-
   -- what a seat learns with the turn
   abbrev pub Takes : View E D O → V → Type 0
-  Takes v x = StartsWith (M.history x) v.seen × Learns M.kind v v.role (M.history x) × ((f : Fixed D O) → v.fixed ≡ Some f → IsOf f x)
+  Takes v x = StartsWith (M.history x) v.seen × Learns M.kind v v.role (M.history x) × ((f : Fixed D O) → v.fixed ≡ Some f → IsOf M f x)
 
-  -- what the administrator learns of the value with which a gate ends: each retired number's entries are all of that number, and its turns' entries are all notices and acknowledgements
-  abbrev pub Closes : View E D O → V → Type 0
-  Closes v x =
-      ((f : Fixed D O) → v.fixed ≡ Some f → IsOf f x) × (controls M.kind (M.history x) ≡ entries_of v.desk.turns)
-      × ((i : ℕ) (e : Ended E) → get_elem? v.desk.ended i ≡ some e → e.entries ≡ of_caller M.kind e.number (M.history x))
-      × StartsWith (M.history x) v.seen × (last_notice M.kind (M.history x) ≡ (v.desk.newest, v.desk.version))
+  -- a retired number was made, and its entries are all of that number in the history
+  abbrev pub IsEnded : View E D O → List E → Ended E → Type 0
+  IsEnded v log e = (e.number < v.desk.made) × (e.entries ≡ of_caller M.kind e.number log)
+
+  -- what the administrator learns of the value with which a gate ends: it is the gate's; its turns' entries are all notices and acknowledgements, and each turn found and left what it says; each retired number's entries are all of that number, no number was retired twice, and one that was never made has no entry; what was seen is how the history begins; and the last notice is that of the current number
+  pub record Closes (v : View E D O) (x : V) : Type 0 where
+    pub value : (f : Fixed D O) → v.fixed ≡ Some f → IsOf M f x
+    pub controls_are : controls M.kind (M.history x) ≡ entries_of v.desk.turns
+    pub turns : (f : Fixed D O) → v.fixed ≡ Some f → (i : ℕ) (turn : Item E) → get_elem? v.desk.turns i ≡ some turn → IsTurn M f turn
+    pub ended : (i : ℕ) (e : Ended E) → get_elem? v.desk.ended i ≡ some e → IsEnded v (M.history x) e
+    pub once : AreOnce v.desk.ended
+    pub unmade : (n : ℕ) → v.desk.made ≤ n → of_caller M.kind n (M.history x) ≡ []
+    pub seen : StartsWith (M.history x) v.seen
+    pub last : last_notice M.kind (M.history x) ≡ (v.desk.newest, v.desk.version)
 
 module _ {V E D O : Type 0} (M : Means V E D O) (decides : D → Decisions) where
   -- at some moment the table met the whole rule, this view was a seat's, and the word was this one

@@ -1,5 +1,6 @@
 -- What a seat knows after each kind of step, as a function of what it knew and of the word that the step found.
 use Rattle.std.specs.Prelude.{ℕ, ◌+◌, ◌-◌, ◌%◌, ◌==◌, nat_le, cond, List, [], ◌∷◌, ◌++◌, length, Option, Some, None}
+use Rattle.std.specs.FinMap as maps
 use Rattle.row_words.specs.Words.{split_gate}
 use Rattle.gate_rule.specs.declared.view.Role.{Role}
 use Rattle.gate_rule.specs.declared.view.Role.TheVariants.{Spent, Caller, Admin}
@@ -220,13 +221,13 @@ module _ {V E D O : Type 0} (M : Means V E D O) where
     ticket = Served n;
     trace = traced v.trace (done 4 n n);
     seen = M.history x;
-    follows = M.follows x;
-    desk = record v.desk { looked = None; found = M.stale x };
+    follows = maps.entries (M.follows x);
+    desk = record v.desk { looked = None; found = length (M.stale x) };
   }
 
   -- the item of a turn that ends with this value
   abbrev pub item_of : View E D O → V → Item E
-  item_of v y = record { entry = entry_added v.seen (M.history y); looked = v.desk.looked; found = v.desk.found; left = M.stale y }
+  item_of v y = record { entry = entry_added v.seen (M.history y); looked = v.desk.looked; found = v.desk.found; left = length (M.stale y) }
 
   -- the turn passed on, with this value
   abbrev pub gave : V → View E D O → ℕ → View E D O
@@ -235,5 +236,5 @@ module _ {V E D O : Type 0} (M : Means V E D O) where
     trace = traced v.trace (done 4 n (one_more n));
     seen = M.history y;
     mine = mine_in v.role v.mine (M.history y);
-    desk = record v.desk { left = M.stale y; turns = v.desk.turns ++ item_of v y ∷ [] };
+    desk = record v.desk { left = length (M.stale y); turns = v.desk.turns ++ item_of v y ∷ [] };
   }

@@ -5,12 +5,15 @@ use atomic_table::{Seat, Shared, TableRule};
 use std::snapshot::Snapshot;
 
 /// A value that a gate can keep: it has a history, whose entries are calls of callers, notices and
-/// acknowledgements, an opening and a decider that no turn changes, and slots of which some are stale. What its
-/// type promises of each history has at least notices and acknowledgements in their order.
+/// acknowledgements, an opening and a decider that no turn changes, and slots. What its type promises of each history
+/// has at least notices and acknowledgements in their order. What it promises of each value has at least that every
+/// used slot follows a policy number that may be named, which is the settled one where nothing is pending, and that
+/// the stale slots are those that follow the number before the pending one and on whose pair the two versions differ.
 pub trait Journal<D: Decider>: Drop {
-    ghost use Rattle.std.specs.Prelude.{List};
+    ghost use Rattle.std.specs.Prelude.{◌≡◌, List};
+    ghost use Rattle.access_vectors.specs.Stale.{AreNamed, stale_slots};
     ghost use Rattle.gate_rule.specs.Meaning.{Means};
-    ghost use Rattle.gate_rule.specs.History.{Alternates};
+    ghost use Rattle.gate_rule.specs.History.{Alternates, phase_in};
 
     type Entry;
 
@@ -19,6 +22,10 @@ pub trait Journal<D: Decider>: Drop {
     ghost means: { Means Self Self.Entry D Self.Opening };
 
     ghost alternates: { (o : Self.Opening) (d : D) (log : List Self.Entry) → means.promise o d log → Alternates means.kind (D.decides d).versions 0 0 log };
+
+    ghost are_named: { (value : Self) → means.keeps value → AreNamed (phase_in means.kind (means.history value)) (means.follows value) };
+
+    ghost are_stale: { (value : Self) → means.keeps value → means.stale value ≡ stale_slots (D.decides (means.decider value)) means.class (phase_in means.kind (means.history value)) (means.pair_of value) (means.follows value) };
 }
 
 /// What the table is told once: decider, first value, and the numbers of seats, quota and most.

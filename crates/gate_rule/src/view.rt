@@ -49,13 +49,6 @@ pub struct Key {
     pub class: Class,
 }
 
-/// The policy number that a used slot of a client follows.
-pub struct Follow {
-    pub client: u64,
-    pub slot: u64,
-    pub number: u64,
-}
-
 /// One turn of the administrator: the entry that it added, the count of older passes that it showed, and how many
 /// slots were stale in the value taken and in the value given back.
 pub struct Item<E> {
@@ -112,8 +105,8 @@ pub struct View<E, D, O> {
     pub mine: LinkedList<E>,
     /// The keys that it was served.
     pub served: LinkedList<Key>,
-    /// What the slots followed in the value that it took last.
-    pub follows: LinkedList<Follow>,
+    /// The policy number that each used slot followed in the value that it took last, with the slot's place.
+    pub follows: LinkedList<(u64, u64)>,
     pub desk: Desk<E>,
     /// `None` once the seat is given up.
     pub fixed: Option<Fixed<D, O>>,

@@ -1,6 +1,16 @@
-use Rattle.std.proofs.Common.{ap, subst}
+use Rattle.std.proofs.Common.{suc, ap, subst, rules}
 use Rattle.gate_rule.specs.Told.{Takes}
 use Rattle.epoch_gate.proofs.turn.wait_for_turn.Goals as goal
+
+pub loop-preserved : goal.loop-preserved
+loop-preserved g c = (
+  search rules,
+  search rules,
+  (
+    suc c.loop.invariant.2.0,
+    (c.loop.place.me.0.trace, c.loop.invariant.2.1, c.poll.new.place.me.0.trace.last.found, c.in_default.ensures.missed, ap (λ (m : _). m.0.trace) c.in_default.ensures.wait),
+  ),
+)
 
 pub returns-in-Some-poll-clause-learns : goal.returns-in-Some-poll-clause-learns
 returns-in-Some-poll-clause-learns g c =

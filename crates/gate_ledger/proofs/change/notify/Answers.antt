@@ -1,15 +1,45 @@
-use Rattle.std.proofs.Common.{◌∙◌, arith, ap}
-use Rattle.gate_ledger.specs.Lines.{kind_of}
+use Rattle.std.proofs.Common.{◌≡◌, ℕ, ◌+◌, ◌∙◌, Some, None, sym, ap, subst}
+use Rattle.gate_ledger.specs.declared.ledger.Line.TheVariants.{Noticed}
+use Rattle.gate_ledger.specs.Changes.{phase_after, notice_fault}
 use Rattle.gate_ledger.proofs.Growing as growing
+use Rattle.gate_ledger.proofs.Noticing as noticing
 use Rattle.gate_ledger.proofs.change.notify.Goals as goal
 
-pub give_admin-requires-in-Ok-clause-value : goal.give_admin-requires-in-Ok-clause-value
-give_admin-requires-in-Ok-clause-value g c =
-    let value = c.take_admin-ledger.ensures.value in
-    let ledger = c.take_admin-ledger.result in
-    let versions = c.versions.ensures ∙ ap (λ (d : _). (g.D.Decider.decides d).versions) c.decider.ensures in (
-      value.0,
-      c.in-Ok.ensures.decider ∙ value.1,
-      growing.grown kind_of _ _ _ _ value.2 c.in-Ok.ensures.ok
-          (omega (arith, ledger.settled_is, ledger.newest_is, c.if-ledger-newest.false), omega (arith, ledger.settled_is, c.if-ledger-newest.false), omega (arith, versions, c.from.ensures, c.if-from-versions.false)),
+pub returns-in-Ok-clause-ok : goal.returns-in-Ok-clause-ok
+returns-in-Ok-clause-ok g c =
+    let took = c.take_admin-ledger.ensures.took in
+    let raised = c.raise.ensures.raised in
+    let gave = c.give_admin.ensures.gave in
+    let w = c.raise.new.admin.view in
+    let b = c.give_admin.new.admin.view in
+    let items = c.take_admin-ledger.result.lines.items in
+    let learns = c.take_admin-ledger.ensures.learns in
+    let lawful = c.take_admin-ledger.ensures.value.2 in
+    let versions = c.versions.ensures ∙ ap (λ (d : _). (g.D.Decider.decides d).versions) c.decider.ensures in
+    let number = noticing.number _ c.args.ver c.args.most items lawful c.in-Ok.ensures.settled in
+    let next = c.in-Ok.ensures.next ∙ ap (λ (n : ℕ). n + 1) (sym number) in
+    let seen = ap (λ (v : _). v.seen) raised ∙ ap (λ (v : _). v.seen) took in (
+      items,
+      subst (λ (n : ℕ). notice_fault (phase_after items) n c.args.ver c.args.most ≡ None) versions c.in-Ok.ensures.allowed,
+      next,
+      (learns.0, ap (λ (v : _). v.seen) gave ∙ c.in-Ok.ensures.ok),
+      growing.turn_done w b c.in-Ok.ledger.lines.items 0 (ap (λ (v : _). v.desk.turns) gave) _ (Some (Noticed c.in-Ok.ledger.newest c.args.ver)) None 0 (ap (λ (v : _). v.desk.turns) raised ∙ ap (λ (v : _). v.desk.turns) took)
+          (growing.line_added w items _ (Noticed c.in-Ok.ledger.newest c.args.ver) seen c.in-Ok.ensures.ok) (ap (λ (v : _). v.desk.looked) raised ∙ ap (λ (v : _). v.desk.looked) took) (ap (λ (v : _). v.desk.found) raised ∙ ap (λ (v : _). v.desk.found) took),
+      ap (λ (v : _). v.desk.newest) gave ∙ (ap (λ (v : _). v.desk.newest) raised ∙ (ap (λ (v : _). v.desk.newest + 1) took ∙ (ap (λ (p : _). p.0 + 1) (sym learns.1) ∙ sym c.in-Ok.ensures.next))),
+      ap (λ (v : _). v.desk.version) gave ∙ c.raise.ensures.version,
+    )
+
+pub returns-in-Err-clause-err : goal.returns-in-Err-clause-err
+returns-in-Err-clause-err g c =
+    let took = c.take_admin-ledger.ensures.took in
+    let gave = c.give_admin-in-Err.ensures.gave in
+    let w = c.take_admin-ledger.new.admin.view in
+    let b = c.give_admin-in-Err.new.admin.view in
+    let items = c.take_admin-ledger.result.lines.items in
+    let same = c.in-Err.ensures.err.0 in (
+      growing.begins_same items _ _ (ap (λ (v : _). v.seen) gave ∙ same) c.take_admin-ledger.ensures.learns.0,
+      growing.turn_done w b c.in-Err.ledger.lines.items 0 (ap (λ (v : _). v.desk.turns) gave) _ None None 0 (ap (λ (v : _). v.desk.turns) took)
+          (growing.none_added w items _ (ap (λ (v : _). v.seen) took) same) (ap (λ (v : _). v.desk.looked) took) (ap (λ (v : _). v.desk.found) took),
+      ap (λ (v : _). v.desk.newest) gave ∙ ap (λ (v : _). v.desk.newest) took,
+      ap (λ (v : _). v.desk.version) gave ∙ ap (λ (v : _). v.desk.version) took,
     )

@@ -1,7 +1,6 @@
-use Rattle.std.proofs.Common.{◌≡◌, ◌≤◌}
-use Rattle.gate_rule.specs.declared.view.Ticket.TheVariants.{Without}
-use Rattle.epoch_gate.specs.Seats.{IsOfGate, IsInside}
+use Rattle.epoch_gate.specs.Seats.{IsOfGate}
+use Rattle.epoch_gate.specs.Known.{IsIdle, HasPass}
 use Rattle.gate_ledger.proofs.tests.thousand.Given as goal
 
 abbrev pub invariant-loop-mark : goal.invariant-loop-mark
-invariant-loop-mark g l = IsOfGate l.gate l.seat × (l.seat.view.ticket ≡ Without) × IsInside l.seat.view.rights.pass × (l.done ≤ l.mark)
+invariant-loop-mark g l = IsOfGate l.gate l.seat × IsIdle l.seat × HasPass l.seat
