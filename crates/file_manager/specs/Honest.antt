@@ -14,7 +14,7 @@ use Rattle.file_manager.specs.declared.call.FileCall.{FileCall}
 use Rattle.file_manager.specs.declared.call.FileCall.TheVariants.{OpenFile, ReadFile}
 use Rattle.file_manager.specs.declared.call.FileReply.{FileReply}
 use Rattle.file_manager.specs.declared.call.FileReply.TheVariants.{Done, Bytes, Denied, NotFound, IsDir, BadSlot, SlotUsed, BadMode}
-use Rattle.file_manager.specs.Plain.{FileState, FileAnswer, Held, Asking, then_asking, asking_mode, mode_perms, denied_or, after_asking, asking, saying, filled, opened_file, opened, open_into, open_row, read_row, answer, place, at_place, node_of, bytes_of, sid_of, denial_of}
+use Rattle.file_manager.specs.Plain.{FileState, FileAnswer, Held, Asking, then_asking, asking_mode, mode_perms, denied_or, after_asking, asking, saying, filled, opened_file, opened, open_into, open_row, read_row, answer, place, at_place, entry_key, node_under, bytes_of, sid_of, denial_of}
 
 -- each of these questions was answered yes
 abbrev AllYes : List Asked → Type 0
@@ -120,7 +120,7 @@ honest_opened d state s number version at path mode (Some node) = honest_file d 
 honest_open : (d : Decisions) (state : FileState) (s number version at : ℕ) (path : List (List ℕ)) (mode : ℕ) (held : Option Held) → IsHonest denial_of d number version (open_into d state s number version at path mode held)
 honest_open d state s number version at path mode (Some held) = honest_saying d state number version SlotUsed refl
 honest_open d state s number version at path mode None =
-    honest_asking d state number version s state.opening.root dir_search _ (honest_opened d state s number version at path mode (node_of state.opening.nodes path))
+    honest_asking d state number version s state.opening.root dir_search _ (honest_opened d state s number version at path mode (node_under (entry_key d version s state.opening.root) state.opening.nodes path))
 
 honest_read : (d : Decisions) (state : FileState) (number version : ℕ) (held : Option Held) (offset most : ℕ) → IsHonest denial_of d number version (read_row state held offset most)
 honest_read d state number version None offset most = honest_saying d state number version BadSlot refl

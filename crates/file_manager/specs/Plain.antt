@@ -1,5 +1,5 @@
 -- The plain file manager: finite maps, no cache, and a slot that gives nothing by itself.
-use Rattle.std.specs.Prelude.{ℕ, ◌+◌, ◌*◌, ◌<◌, ◌≤◌, ◌≡◌, Bool, true, false, IsTrue, not, List, [], ◌∷◌, ◌++◌, length, take, drop, slice_get, slice_set, slice_index, replicate, All, Option, Some, None, if◌then◌else◌}
+use Rattle.std.specs.Prelude.{ℕ, ◌+◌, ◌*◌, ◌<◌, ◌≤◌, ◌≡◌, Bool, true, false, IsTrue, not, ◌==◌, List, [], ◌∷◌, ◌++◌, length, take, drop, slice_get, slice_set, slice_index, replicate, All, Option, Some, None, if◌then◌else◌}
 use Rattle.std.specs.List.{find}
 use Rattle.access_vectors.specs.Table.{Permission}
 use Rattle.access_vectors.specs.Perms.{file_read, file_write, file_append, dir_search}
@@ -7,6 +7,7 @@ use Rattle.access_vectors.specs.Vectors.{has}
 use Rattle.access_vectors.specs.Decisions.{Decisions}
 use Rattle.access_vectors.specs.Asking.{question}
 use Rattle.access_vectors.specs.declared.asked.Asked.{Asked}
+use Rattle.access_vectors.specs.declared.class.Class.TheVariants.{Dir}
 use Rattle.manager_history.specs.Answers.{Answer, Denial}
 use Rattle.file_manager.specs.Paths.{same_path}
 use Rattle.file_manager.specs.declared.opening.Node.{Node}
@@ -122,12 +123,22 @@ abbrev pub opened : Decisions → FileState → ℕ → ℕ → ℕ → ℕ → 
 opened d state s number version at path mode None = saying state NotFound
 opened d state s number version at path mode (Some node) = opened_file d state s number version at path mode node.sid node.bytes
 
--- opening into what a place holds: it has to be free, and then the root is searched for the path's one name
+-- the key under which a subject looks entries of a directory with this label up: 0 where the subject's member of the
+-- label is the label itself, and else that member
+abbrev pub entry_key : Decisions → ℕ → ℕ → ℕ → ℕ
+entry_key d version s label = if d.member version s label Dir == label then 0 else d.member version s label Dir
+
+-- the node of a path, looked up in the root under a key: the nodes of an opening stand under key 0
+abbrev pub node_under : ℕ → List Node → List (List ℕ) → Option Node
+node_under key nodes path = if key == 0 then node_of nodes path else None
+
+-- opening into what a place holds: it has to be free, and then the root is searched for the path's one name, under the
+-- caller's key there
 abbrev pub open_into : Decisions → FileState → ℕ → ℕ → ℕ → ℕ → List (List ℕ) → ℕ → Option Held → FileAnswer
 open_into d state s number version at path mode (Some held) = saying state SlotUsed
 open_into d state s number version at path mode None =
     asking state number (question d version s state.opening.root dir_search)
-    (opened d state s number version at path mode (node_of state.opening.nodes path))
+    (opened d state s number version at path mode (node_under (entry_key d version s state.opening.root) state.opening.nodes path))
 
 -- open: SlotUsed; the root is searched; NotFound; IsDir; each permission of the mode
 abbrev pub open_row : Decisions → FileState → ℕ → ℕ → ℕ → ℕ → List (List ℕ) → ℕ → FileAnswer

@@ -14,7 +14,7 @@ use crate::held_file::HeldFile;
 use crate::opening::{FileOpening, Node};
 use crate::path::FilePath;
 use access_vectors::perms::{DIR_SEARCH, FILE_READ};
-use access_vectors::{Asker, Perm, Questions, Vector, ask};
+use access_vectors::{Asker, Class, Perm, Questions, Vector, ask};
 use flask_sid::{Memory, Piece, Sid};
 use std::alloc::Global;
 use std::marker::Model;
@@ -122,6 +122,32 @@ fn find<'a>(nodes: &'a [Node], path: &FilePath) -> Option<(usize, &'a Node)>
     }
 }
 
+/// The key under which a subject looks entries of a directory with this label up.
+fn entry_key<A: Asker>(asker: &mut A, s: Sid, label: Sid) -> u16
+    requires source { IsTrue ((A.decides asker.old).known s) }
+    requires target { IsTrue ((A.decides asker.old).known label) }
+    ensures key { result ≡ Plain.entry_key (A.decides asker.old) (A.version asker.old) s label }
+    ensures same { A.same asker.old asker.new }
+    ensures decides { A.decides asker.new ≡ A.decides asker.old }
+    ensures version { A.version asker.new ≡ A.version asker.old }
+    ensures keys { A.keys asker.new ≡ A.keys asker.old }
+{
+    let member = asker.member(s, label, Class::Dir);
+    if member.number() == label.number() {
+        0
+    } else {
+        member.number()
+    }
+}
+
+/// The node of a path with its place, looked up in the root under a key.
+fn find_under<'a>(key: u16, nodes: &'a [Node], path: &FilePath) -> Option<(usize, &'a Node)>
+    ensures node { option_map (λ found. found.1.now) result ≡ Plain.node_under key nodes.now path.now }
+    ensures at { IfSome result (λ found. IsNodeOf nodes.now path.now found.0) }
+{
+    if key == 0 { find(nodes, path) } else { None }
+}
+
 /// The first place of a node of this path.
 fn place_of(nodes: &[Node], path: &FilePath) -> Option<usize>
     ensures { result ≡ position (λ node. same_path node.path path.now) nodes.now }
@@ -169,7 +195,8 @@ impl Files {
         if !ask(asker, asked, s, self.opening.root, DIR_SEARCH)? {
             return Ok(denied(DIR_SEARCH, number));
         }
-        let Some((number_of, node)) = find(self.opening.nodes.as_slice(), path) else {
+        let key = entry_key(asker, s, self.opening.root);
+        let Some((number_of, node)) = find_under(key, self.opening.nodes.as_slice(), path) else {
             return Ok((FileReply::NotFound, FileReply::NotFound));
         };
         let Some(_bytes) = &node.bytes else {

@@ -1,5 +1,5 @@
 -- What a read takes from a source, and what a write adds to a sink.
-use Rattle.std.specs.Prelude.{◌≡◌, ◌<◌, ◌≤◌, ◌+◌, ◌-◌, ◌^◌, ℕ, min, List, [], ◌++◌, length, take, drop, Option, option_map, IfSome}
+use Rattle.std.specs.Prelude.{◌≡◌, ◌<◌, ◌≤◌, ◌+◌, ◌-◌, ◌^◌, ℕ, min, List, [], ◌++◌, length, take, Option, option_map, IfSome}
 use Rattle.flask_io.specs.declared.source.Got.{Got}
 use Rattle.flask_io.specs.declared.source.Got.TheVariants.{Bytes, End, Failed}
 use Rattle.flask_io.specs.declared.sink.Put.{Put}

@@ -5,6 +5,7 @@
 //! one. `ReaderSource` and `WriterSink` are the trusted edge: they tell no bytes.
 #![tactic(auto)]
 
+mod calls;
 mod memory;
 mod sink;
 mod source;

@@ -1,9 +1,8 @@
 -- The policy numbers of held passes, as the phase goes on.
-use Rattle.std.proofs.Common.{◌≡◌, ◌<◌, ◌≤◌, ◌+◌, ℕ, zero, suc, Bool, true, false, cond, ltb, List, [], ◌∷◌, length, slice_get, slice_set, replicate, Option, Some, None, unwrap_or, refl, inl, inr, arith, ◌⊎◌}
-use Rattle.std.specs.Prelude.{count_by}
+use Rattle.std.proofs.Common.{◌≡◌, ◌+◌, ℕ, zero, suc, true, false, cond, List, [], ◌∷◌, slice_set, replicate, Option, Some, None, unwrap_or, refl, inl, inr, arith}
 use Rattle.std.proofs.lemmas.Bool.Decides.{nat_tests}
 use Rattle.std.proofs.lemmas.List.Sums.{sum_by-cons}
-use Rattle.access_vectors.specs.Phases.{MayName, number_of, version_at, noticed, acknowledged}
+use Rattle.access_vectors.specs.Phases.{MayName, number_of, noticed}
 use Rattle.access_vectors.specs.declared.phase.Phase.{Phase}
 use Rattle.access_vectors.specs.declared.phase.Phase.TheVariants.{Settled, Pending}
 use Rattle.manager_history.specs.Passing.{pass_of, is_below, older_count}

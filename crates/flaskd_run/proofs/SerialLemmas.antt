@@ -1,12 +1,12 @@
 -- Running the lines one after another.
-use Rattle.std.proofs.Common.{◌≡◌, ◌<◌, ◌≤◌, ◌+◌, ℕ, zero, suc, Bool, true, false, List, [], ◌∷◌, ◌++◌, length, All, Option, Some, None, Result, Ok, Err, refl, sym, ap, ◌∙◌, arith, map, IsTrue, append_assoc}
+use Rattle.std.proofs.Common.{◌≡◌, ◌<◌, ◌≤◌, ◌+◌, ℕ, suc, Bool, true, false, List, [], ◌∷◌, ◌++◌, length, All, Option, Result, Ok, Err, refl, sym, ap, ◌∙◌, arith, IsTrue, append_assoc}
 use Rattle.std.specs.Prelude.{OnOk, OnErr, nat_lt, nat_le, ◌&&◌}
 use Rattle.std.proofs.lemmas.Bool.Decides.{nat_tests}
+use Rattle.std.proofs.lemmas.List.{length-append, length-map}
 use Rattle.std.proofs.lemmas.List.Elements.{All-map}
 use Rattle.flask_io.specs.Streams.{Adds}
 use Rattle.access_vectors.specs.Decisions.{Decisions}
 use Rattle.manager_history.specs.Kept.{is_done}
-use Rattle.policy_text.specs.declared.policy.PolicyParts.{PolicyParts}
 use Rattle.policy_text.specs.declared.policy.ContextLine.{ContextLine}
 use Rattle.file_manager.specs.Plain.{IsOpening}
 use Rattle.session_text.specs.Sessions.{IsSession, IsSidOf}
@@ -17,22 +17,25 @@ use Rattle.session_text.specs.declared.session.Run.TheVariants as run
 use Rattle.session_text.specs.declared.session.RunLine.{RunLine}
 use Rattle.file_manager.specs.declared.opening.FileOpening.{FileOpening}
 use Rattle.flaskd_run.specs.Desks.{Standing}
-use Rattle.flaskd_run.specs.Serial.{Day, day_after, day_acknowledged, line_text, lines_text, opening_of, morning_of, morning, serial_text, ack_on}
-use Rattle.flaskd_run.specs.Walking.{decisions_of}
+use Rattle.flaskd_run.specs.Serial.{Day, day_after, day_acknowledged, line_text, lines_text, opening_of, morning_of, text_on, ack_on}
+use Rattle.policy_text.specs.declared.policy.PolicyParts.{PolicyParts}
+use Rattle.policy_versions.specs.Closure.{AreContexts, declared_contexts}
+use Rattle.policy_versions.specs.Judging.{decisions_of}
+use Rattle.flask_sid.specs.declared.context.ContextOf.{ContextOf}
 use Rattle.flaskd_run.specs.Writing.{IsOffered, AddsFront}
 use Rattle.flaskd_run.proofs.WritingLemmas.{written_more, front_of_part, adds_more}
 
 -- a line ran and was written
-pub line_written : (policy policy' : PolicyParts) (clients : List ClientLine) (day day' : Day) (line : RunLine) (rest items : List RunLine) (before now later : Option (List ℕ)) (whole out : List ℕ) → IsOffered before now whole (lines_text (decisions_of policy) clients day items) → items ≡ line ∷ rest → policy' ≡ policy → out ≡ line_text (decisions_of policy') clients day line.line line.run → day' ≡ day_after (decisions_of policy') day line.run → Adds now later out → IsOffered before later whole (lines_text (decisions_of policy) clients day' rest)
-line_written policy policy' clients day day' line rest items before now later whole out offered items_is same text day_is added =
+pub line_written : (d d' : Decisions) (clients : List ClientLine) (day day' : Day) (line : RunLine) (rest items : List RunLine) (before now later : Option (List ℕ)) (whole out : List ℕ) → IsOffered before now whole (lines_text d clients day items) → items ≡ line ∷ rest → d' ≡ d → out ≡ line_text d' clients day line.line line.run → day' ≡ day_after d' day line.run → Adds now later out → IsOffered before later whole (lines_text d clients day' rest)
+line_written d d' clients day day' line rest items before now later whole out offered items_is same text day_is added =
     let here = rw items_is at offered in
-    rw (day_is, same) (written_more before now later whole (line_text (decisions_of policy) clients day line.line line.run) _ here (rw (text, same) at added))
+    rw (day_is, same) (written_more before now later whole (line_text d clients day line.line line.run) _ here (rw (text, same) at added))
 
 -- a line ran, and a front of it was written
-pub line_failed : (policy policy' : PolicyParts) (clients : List ClientLine) (day : Day) (line : RunLine) (rest items : List RunLine) (before now later : Option (List ℕ)) (whole out : List ℕ) → IsOffered before now whole (lines_text (decisions_of policy) clients day items) → items ≡ line ∷ rest → policy' ≡ policy → out ≡ line_text (decisions_of policy') clients day line.line line.run → AddsFront now later out → AddsFront before later whole
-line_failed policy policy' clients day line rest items before now later whole out offered items_is same text added =
+pub line_failed : (d d' : Decisions) (clients : List ClientLine) (day : Day) (line : RunLine) (rest items : List RunLine) (before now later : Option (List ℕ)) (whole out : List ℕ) → IsOffered before now whole (lines_text d clients day items) → items ≡ line ∷ rest → d' ≡ d → out ≡ line_text d' clients day line.line line.run → AddsFront now later out → AddsFront before later whole
+line_failed d d' clients day line rest items before now later whole out offered items_is same text added =
     let here = rw items_is at offered in
-    front_of_part before now later whole (line_text (decisions_of policy) clients day line.line line.run) _ here (rw (text, same) at added)
+    front_of_part before now later whole (line_text d clients day line.line line.run) _ here (rw (text, same) at added)
 
 -- an outcome of which one fact gives another
 pub on_ok : {T E : Type 0} (result : Result T E) (P Q : Type 0) → (P → Q) → OnOk result P → OnOk result Q
@@ -74,17 +77,26 @@ changes_after d day (run.Notify version) = omega arith
 changes_after d day run.Ack =
     elim (is_done (ack_on day)) as (λ (b : Bool). (day_acknowledged day b).changes ≤ day.changes + 1) [ true ↦ omega arith | false ↦ omega arith ]
 
--- the identifiers of a session are its policy's
-sid_known : (contexts : List ContextLine) (sid : ℕ) → IsSidOf contexts sid → IsTrue (nat_lt 0 sid && nat_le sid (length contexts))
-sid_known contexts sid is = grind (arith, nat_tests)
+-- the identifiers of a session are those of its policy's contexts, of which the declared ones come first
+sid_known : (declared : List ContextLine) (count sid : ℕ) → length declared ≤ count → IsSidOf declared sid → IsTrue (nat_lt 0 sid && nat_le sid count)
+sid_known declared count sid few is = grind (arith, nat_tests)
 
-pub opening_known : (session : SessionParts) → IsSession session → 0 < length session.policy.contexts → IsOpening (decisions_of session.policy) (opening_of session)
+-- there are at least as many contexts as declared ones
+declared_few : (policy : PolicyParts) (contexts : List (ContextOf (List ℕ))) → AreContexts policy contexts → length policy.contexts ≤ length contexts
+declared_few policy contexts are =
+    let whole : length contexts ≡ length (declared_contexts policy) + length are.derived = ap length are.all ∙ length-append (declared_contexts policy) are.derived in
+    let front : length (declared_contexts policy) ≡ length policy.contexts = length-map policy.contexts (λ (line : ContextLine). line.context) in
+    omega arith
+
+pub opening_known : (session : SessionParts) (contexts : List (ContextOf (List ℕ))) (d : Decisions) → IsSession session → 0 < length session.policy.contexts → AreContexts session.policy contexts → d ≡ decisions_of session.policy contexts → IsOpening d (opening_of session)
 unfolding decisions_of
-opening_known session is some = (
-  All-map (λ sid. IsTrue (nat_lt 0 sid && nat_le sid (length session.policy.contexts))) (λ (client : ClientLine). client.sid) session.clients (λ k d within. sid_known session.policy.contexts _ (is.clients k d within)),
-  sid_known session.policy.contexts 1 (omega arith, omega arith),
-  λ k d within. sid_known session.policy.contexts _ (is.nodes k d within),
-)
+opening_known session contexts d is some are decides =
+    let few : length session.policy.contexts ≤ length contexts = declared_few session.policy contexts are in
+    rw decides (
+      All-map (λ sid. IsTrue (nat_lt 0 sid && nat_le sid (length contexts))) (λ (client : ClientLine). client.sid) session.clients (λ k d within. sid_known session.policy.contexts (length contexts) _ few (is.clients k d within)),
+      sid_known session.policy.contexts (length contexts) 1 few (omega arith, omega arith),
+      λ k d within. sid_known session.policy.contexts (length contexts) _ few (is.nodes k d within),
+    )
 
 -- a line was written whole, with which all is
 pub all_written : (before now later : Option (List ℕ)) (whole part : List ℕ) → IsOffered before now whole part → Adds now later part → Adds before later whole
@@ -99,9 +111,11 @@ last_failed before now later whole part offered added = (
   adds_more before now later offered.0 added.0 offered.2 added.3,
 )
 
--- what the lines print from a desk that was set up with a session's opening and policy
-pub run_text : (session parts : SessionParts) (opening : FileOpening) (policy : PolicyParts) (desk : Standing) (clients : List ClientLine) (items : List RunLine) → parts ≡ session → opening ≡ opening_of parts → policy ≡ parts.policy → desk ≡ record { day = morning_of opening; policy = policy } → clients ≡ parts.clients → items ≡ parts.lines → lines_text (decisions_of desk.policy) clients desk.day items ≡ serial_text session
-unfolding serial_text
-run_text session parts opening policy desk clients items parts_is opening_is policy_is desk_is clients_is items_is =
-    rw (desk_is, clients_is, items_is, opening_is, policy_is)
-    (ap (λ (s : SessionParts). lines_text (decisions_of s.policy) s.clients (morning s) s.lines) parts_is)
+-- what the lines print from a desk that was set up with an opening
+pub run_text : {Decider : Type 0} (decides : Decider → Decisions) (decider : Decider) (opening : FileOpening) (desk : Standing Decider) (clients : List ClientLine) (items : List RunLine) → desk ≡ record { day = morning_of opening; decider = decider } → lines_text (decides desk.decider) clients desk.day items ≡ lines_text (decides decider) clients (morning_of opening) items
+run_text decides decider opening desk clients items is = ap (λ (at : Standing _). lines_text (decides at.decider) clients at.day items) is
+
+-- what the lines of a session print, from what it was opened with
+pub run_is : (session : SessionParts) (opening : FileOpening) (d : Decisions) (clients : List ClientLine) (items : List RunLine) → opening ≡ opening_of session → clients ≡ session.clients → items ≡ session.lines → lines_text d clients (morning_of opening) items ≡ text_on d session
+unfolding text_on
+run_is session opening d clients items opening_is clients_is items_is = rw (clients_is, items_is, opening_is) refl

@@ -1,9 +1,21 @@
 -- How a run goes, by where it ends.
-use Rattle.std.proofs.Common.{◌≡◌, ◌≤◌, ℕ, true, false, List, [], length, Option, None, Some, refl, inr, arith}
-use Rattle.flask_io.specs.Streams.{Takes}
+use Rattle.std.proofs.Common.{◌≡◌, ◌≤◌, ℕ, true, false, List, [], length, Option, None, Some, Result, Ok, Err, refl, sym, ap, append-nil, inl, inr, arith}
+use Rattle.flask_io.specs.Streams.{Takes, Adds}
+use Rattle.text_lines.specs.ResultSteps.{LineFault}
+use Rattle.text_lines.specs.declared.fault.FaultKind.{FaultKind}
 use Rattle.session_text.specs.Reading.{session_of}
+use Rattle.session_text.specs.declared.session.SessionParts.{SessionParts}
+use Rattle.flask_sid.specs.declared.context.ContextOf.{ContextOf}
+use Rattle.access_vectors.specs.Decisions.{Decisions}
+use Rattle.policy_text.specs.declared.policy.PolicyParts.{PolicyParts}
+use Rattle.policy_versions.specs.Judging.{TooMany, Broken, Fits, IsJudged, decisions_of}
+use Rattle.policy_versions.specs.Compiling.{IsAnswer}
+use Rattle.policy_versions.specs.declared.compiling.CompileFault.{CompileFault}
+use Rattle.policy_versions.specs.declared.compiling.CompileFault.TheVariants.{TooManyContexts, Neverallow, Memory}
+use Rattle.flaskd_run.specs.Serial.{text_on}
+use Rattle.flaskd_run.specs.Writing.{AddsFront}
 use Rattle.flaskd_run.specs.Reading.{IsEnd}
-use Rattle.flaskd_run.specs.Top.{is_command, is_large, status_of, printed, expected_of, answer_of, Answers, IsWhole, Puts, PutsWhole, Ran, Serves}
+use Rattle.flaskd_run.specs.Top.{is_command, is_large, expected_of, answer_of, Answers, IsJudgedOf, IsWhole, Puts, PutsWhole, Ran, Serves, Served, IsRefused}
 use Rattle.flaskd_run.specs.declared.status.Status.{Status}
 use Rattle.flaskd_run.specs.declared.status.Status.TheVariants as status
 
@@ -12,23 +24,35 @@ takes_nothing : (left : Option (List ℕ)) → Takes left left []
 takes_nothing None = refl
 takes_nothing (Some bytes) = refl
 
+-- nothing was written, which is a front of any text
+nothing_put : (put : Option (List ℕ)) (text : List ℕ) → AddsFront put put text
+nothing_put None text = ([], text, refl, refl)
+nothing_put (Some bytes) text = ([], text, refl, ap Some (sym (append-nil bytes)))
+
+-- nothing is told of what a policy comes to
+not_judged : (read : Result SessionParts LineFault) → IsJudgedOf read None
+not_judged (Ok session) = tt
+not_judged (Err fault) = tt
+
 -- the words are no command
 pub usage_ran : (words : List (List ℕ)) (left put : Option (List ℕ)) → is_command words ≡ false → Ran status.Usage words left left put put
 unfolding expected_of
 usage_ran words left put no_command =
-    record { taken = []; takes = takes_nothing left; bounded = omega arith; answers = rw no_command refl; whole = tt; puts = refl }
+    record { taken = []; takes = takes_nothing left; bounded = omega arith; judged = None; is_judged = not_judged _; answers = rw no_command refl; whole = tt; puts = refl }
 
 -- the input is too large
 pub large_ran : (words : List (List ℕ)) (before after put : Option (List ℕ)) (bytes : List ℕ) → is_command words ≡ true → is_large bytes ≡ true → Takes before after bytes → length bytes ≤ 4194305 → Ran status.TooLarge words before after put put
 unfolding expected_of
 large_ran words before after put bytes command large takes bounded =
-    record { taken = bytes; takes = takes; bounded = bounded; answers = rw (command, large) refl; whole = tt; puts = refl }
+    record { taken = bytes; takes = takes; bounded = bounded; judged = None; is_judged = not_judged _; answers = rw (command, large) refl; whole = tt; puts = refl }
 
 -- what is served is answered
 answers_of : (said expected : Status) → Serves said expected → Answers said expected
 answers_of status.Ok expected serves = serves
 answers_of status.Usage expected serves = serves
 answers_of (status.BadText line kind) expected serves = serves
+answers_of status.TooManyContexts expected serves = serves
+answers_of (status.Neverallow version line s t perm) expected serves = serves
 answers_of status.ReadFault expected serves = tt
 answers_of status.WriteFault expected serves = serves
 answers_of status.TooLarge expected serves = serves
@@ -39,6 +63,8 @@ whole_of : (said : Status) (left : Option (List ℕ)) → IsEnd left → IsWhole
 whole_of status.Ok left at_end = at_end
 whole_of status.Usage left at_end = tt
 whole_of (status.BadText line kind) left at_end = at_end
+whole_of status.TooManyContexts left at_end = at_end
+whole_of (status.Neverallow version line s t perm) left at_end = at_end
 whole_of status.ReadFault left at_end = tt
 whole_of status.WriteFault left at_end = at_end
 whole_of status.TooLarge left at_end = tt
@@ -49,20 +75,58 @@ puts_of : (said : Status) (left before now : Option (List ℕ)) (text : List ℕ
 puts_of status.Ok left before now text at_end puts = puts
 puts_of status.Usage left before now text at_end puts = puts
 puts_of (status.BadText line kind) left before now text at_end puts = puts
+puts_of status.TooManyContexts left before now text at_end puts = puts
+puts_of (status.Neverallow version line s t perm) left before now text at_end puts = puts
 puts_of status.ReadFault left before now text at_end puts = puts
 puts_of status.WriteFault left before now text at_end puts = puts
 puts_of status.TooLarge left before now text at_end puts = puts
 puts_of status.Memory left before now text at_end puts = inr (at_end, puts)
 
 -- the input was read to its end
-pub served_ran : (said : Status) (words : List (List ℕ)) (before after put now : Option (List ℕ)) (bytes : List ℕ) → is_command words ≡ true → is_large bytes ≡ false → Takes before after bytes → length bytes ≤ 4194305 → IsEnd after → Serves said (status_of (session_of bytes)) → PutsWhole said put now (printed (session_of bytes)) → Ran said words before after put now
+pub served_ran : (said : Status) (words : List (List ℕ)) (before after put now : Option (List ℕ)) (bytes : List ℕ) → is_command words ≡ true → is_large bytes ≡ false → Takes before after bytes → length bytes ≤ 4194305 → IsEnd after → Served said (session_of bytes) put now → Ran said words before after put now
 unfolding expected_of answer_of
-served_ran said words before after put now bytes command small takes bounded at_end serves puts =
+served_ran said words before after put now bytes command small takes bounded at_end served =
     record {
       taken = bytes;
       takes = takes;
       bounded = bounded;
-      answers = rw (command, small) (answers_of said _ serves);
+      judged = served.judged;
+      is_judged = served.is_judged;
+      answers = rw (command, small) (answers_of said _ served.answers);
       whole = whole_of said after at_end;
-      puts = puts_of said after put now (answer_of words bytes) at_end (rw (command, small) puts);
+      puts = puts_of said after put now (answer_of words bytes served.judged) at_end (rw (command, small) served.puts);
     }
+
+-- how a text is served that is no session
+pub refused_served : (line : ℕ) (kind : FaultKind) (put : Option (List ℕ)) (read : Result SessionParts LineFault) → read ≡ Err (record { line = line; kind = kind }) → Served (status.BadText line kind) read put put
+refused_served line kind put read is = rw is (record { judged = None; is_judged = tt; answers = refl; puts = refl })
+
+-- memory was wanting before anything was written
+pub memory_served : (read : Result SessionParts LineFault) (put : Option (List ℕ)) → Served status.Memory read put put
+memory_served read put = record { judged = None; is_judged = not_judged read; answers = tt; puts = nothing_put put _ }
+
+-- a session whose policy is not compiled
+pub refused_policy : (session : SessionParts) (policy : PolicyParts) (fault : CompileFault) (said : Status) (put : Option (List ℕ)) → session.policy ≡ policy → IsAnswer policy (Err fault) → IsRefused policy fault said → Served said (Ok session) put put
+refused_policy session policy TooManyContexts said put same judged is =
+    rw is (record { judged = Some TooMany; is_judged = rw (← same) at judged; answers = refl; puts = refl })
+refused_policy session policy (Neverallow version line s t perm) said put same judged is = by_case is
+  where
+    by_case : IsRefused policy (Neverallow version line s t perm) said → Served said (Ok session) put put
+    by_case (inl memory) = rw memory (memory_served (Ok session) put)
+    by_case (inr broken) = rw (broken, ← same) (record { judged = Some (Broken (record { version = version; line = line; s = s; t = t; perm = perm })); is_judged = rw (← same) at judged; answers = refl; puts = refl })
+refused_policy session policy Memory said put same judged is = rw is (memory_served (Ok session) put)
+
+-- a session that ran to its end
+pub ok_served : (session parts : SessionParts) (contexts : List (ContextOf (List ℕ))) (d : Decisions) (put now : Option (List ℕ)) → parts ≡ session → IsJudged parts.policy (Fits contexts) → d ≡ decisions_of parts.policy contexts → Adds put now (text_on d parts) → Served status.Ok (Ok session) put now
+ok_served session parts contexts d put now same judged decides adds =
+    rw (← same) (record { judged = Some (Fits contexts); is_judged = judged; answers = refl; puts = rw decides at adds })
+
+-- a session of whose text a front was written before the sink failed
+pub failed_served : (session parts : SessionParts) (contexts : List (ContextOf (List ℕ))) (d : Decisions) (put now : Option (List ℕ)) → parts ≡ session → IsJudged parts.policy (Fits contexts) → d ≡ decisions_of parts.policy contexts → AddsFront put now (text_on d parts) → Served status.WriteFault (Ok session) put now
+failed_served session parts contexts d put now same judged decides adds =
+    rw (← same) (record { judged = Some (Fits contexts); is_judged = judged; answers = refl; puts = rw decides at adds })
+
+-- or before memory was wanting
+pub cut_served : (session parts : SessionParts) (contexts : List (ContextOf (List ℕ))) (d : Decisions) (put now : Option (List ℕ)) → parts ≡ session → IsJudged parts.policy (Fits contexts) → d ≡ decisions_of parts.policy contexts → AddsFront put now (text_on d parts) → Served status.Memory (Ok session) put now
+cut_served session parts contexts d put now same judged decides adds =
+    rw (← same) (record { judged = Some (Fits contexts); is_judged = judged; answers = tt; puts = rw decides at adds })

@@ -1,16 +1,15 @@
 -- What the desk of a run keeps.
-use Rattle.std.specs.Prelude.{◌≡◌, ℕ, ◌+◌, ◌≤◌, List, [], ◌∷◌, Option, Some, None, Result, Ok, Err}
+use Rattle.std.specs.Prelude.{◌≡◌, ℕ, List, [], ◌∷◌, Option, Some, None, Result, Ok, Err}
 use Rattle.access_vectors.specs.Phases.{MayName}
 use Rattle.access_vectors.specs.declared.phase.Phase.{Phase}
 use Rattle.manager_history.specs.declared.answers.NotifyFault.{NotifyFault}
 use Rattle.manager_history.specs.declared.answers.NotifyFault.TheVariants as faults
-use Rattle.policy_text.specs.declared.policy.PolicyParts.{PolicyParts}
 use Rattle.flaskd_run.specs.Serial.{Day}
 
--- what contracts see of a desk: where the run stands, and the policy that decides
-pub record Standing : Type 0 where
+-- what contracts see of a desk: where the run stands, and what decides
+pub record Standing (Decider : Type 0) : Type 0 where
   pub day : Day
-  pub policy : PolicyParts
+  pub decider : Decider
 
 -- a held pass has a policy number that may be named
 abbrev pub IsNamed : Phase → Option ℕ → Type 0

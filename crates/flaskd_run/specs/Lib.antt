@@ -1,7 +1,5 @@
 pub mod Reading
 pub mod Writing
-pub mod Walking
-pub mod WalkingLaw
 pub mod Texts
 pub mod Serial
 pub mod Desks

@@ -1,14 +1,16 @@
 -- What `serial` prints: the lines in the text's order, run on the plain manager.
-use Rattle.std.specs.Prelude.{ℕ, ◌+◌, ◌*◌, Bool, true, false, List, [], ◌∷◌, ◌++◌, length, replicate, slice_get, slice_set, map, Option, Some, None, unwrap_or, Result, Ok, Err, ◌≡◌, codes}
+use Rattle.std.specs.Prelude.{ℕ, ◌+◌, Bool, true, false, List, [], ◌∷◌, ◌++◌, replicate, slice_get, slice_set, map, Option, Some, None, unwrap_or, Result, Err, ◌≡◌, codes}
+use Rattle.flask_sid.specs.declared.context.ContextOf.{ContextOf}
 use Rattle.access_vectors.specs.Decisions.{Decisions}
 use Rattle.access_vectors.specs.Phases.{number_of, version_at, noticed, acknowledged}
 use Rattle.access_vectors.specs.declared.phase.Phase.{Phase}
-use Rattle.access_vectors.specs.declared.phase.Phase.TheVariants.{Settled, Pending}
+use Rattle.access_vectors.specs.declared.phase.Phase.TheVariants.{Settled}
 use Rattle.manager_history.specs.Passing.{pass_of, older_count}
 use Rattle.manager_history.specs.Kept.{notice_fault, ack_answer, is_done}
 use Rattle.manager_history.specs.declared.answers.Ack.{Ack}
 use Rattle.manager_history.specs.declared.answers.NotifyFault.{NotifyFault}
 use Rattle.manager_history.specs.declared.answers.NotifyFault.TheVariants as faults
+use Rattle.policy_versions.specs.Judging.{decisions_of}
 use Rattle.file_manager.specs.Plain.{FileState, FileAnswer, answer, opened_with, denial_of}
 use Rattle.file_manager.specs.declared.call.FileCall.{FileCall}
 use Rattle.file_manager.specs.declared.opening.FileOpening.{FileOpening}
@@ -18,7 +20,6 @@ use Rattle.session_text.specs.declared.session.Run.TheVariants as run
 use Rattle.session_text.specs.declared.session.RunLine.{RunLine}
 use Rattle.session_text.specs.declared.session.SessionParts.{SessionParts}
 use Rattle.flaskd_run.specs.Texts.{reply_text, client_text, admin_text, notice_text, ack_text, summary_text}
-use Rattle.flaskd_run.specs.Walking.{decisions_of}
 
 -- where a run stands: the plain manager's state, the phase, the held passes by client, and the counts of the summary
 pub record Day : Type 0 where
@@ -146,6 +147,10 @@ abbrev pub lines_text : Decisions → List ClientLine → Day → List RunLine �
 lines_text d clients day [] = summary_text day.calls day.denied day.changes
 lines_text d clients day (line ∷ lines) = line_text d clients day line.line line.run ++ lines_text d clients (day_after d day line.run) lines
 
--- what a session prints
-unfoldable pub serial_text : SessionParts → List ℕ
-serial_text session = lines_text (decisions_of session.policy) session.clients (morning session) session.lines
+-- what a session prints under these decisions
+unfoldable pub text_on : Decisions → SessionParts → List ℕ
+text_on d session = lines_text d session.clients (morning session) session.lines
+
+-- what a session prints, where its policy decides on these contexts
+abbrev pub serial_text : List (ContextOf (List ℕ)) → SessionParts → List ℕ
+serial_text contexts session = text_on (decisions_of session.policy contexts) session

@@ -3,11 +3,9 @@ ghost use Rattle.access_vectors.specs.Phases.{number_of};
 ghost use Rattle.file_manager.specs.Plain.{IsFormed, IsOpening, denial_of};
 ghost use Rattle.flaskd_run.specs.Serial;
 ghost use Rattle.flaskd_run.specs.Desks.{IsSaid};
-ghost use Rattle.flaskd_run.specs.Walking.{decisions_of};
 ghost use Rattle.session_text.specs.declared.session.Run.{Run};
 
-use crate::walking::Walking;
-use access_vectors::Plainly;
+use access_vectors::{Decider, Plainly};
 use file_manager::{FileCall, FileCore, FileOpening, FileReply};
 use flask_sid::Memory;
 use manager_history::{Ack, Keeper, NotifyFault, Passes};
@@ -23,21 +21,21 @@ const FILES: u8 = 0;
 /// A run on one thread: the file manager's keeper, the passes that are held, and the counts of the summary.
 /// Contracts see where the run stands by the definition of what is printed.
 #[derive(Drop)]
-pub struct Desk<'d, 'p> {
-    decider: &'d Walking<'p>,
-    keeper: Keeper<'d, FileCore, Walking<'p>>,
+pub struct Desk<'d, D: Decider> {
+    decider: &'d D,
+    keeper: Keeper<'d, FileCore, D>,
     passes: Passes,
     calls: u64,
     denied: u64,
     changes: u64,
 }
 
-impl<'d, 'p> Model for Desk<'d, 'p> {
-    ghost use Rattle.std.specs.Prelude.{◌≡◌, ◌≤◌, length};
+impl<'d, D: Decider> Model for Desk<'d, D> {
+    ghost use Rattle.std.specs.Prelude.{◌≡◌, ◌≤◌};
     ghost use Rattle.access_vectors.specs.Phases.{number_of, AreVersions};
     ghost use Rattle.flaskd_run.specs.Desks.{Standing, AreNamed};
 
-    ghost Value = { Standing };
+    ghost Value = { Standing D };
 
     ghost view = { λ desk. record {
       day = record {
@@ -48,7 +46,7 @@ impl<'d, 'p> Model for Desk<'d, 'p> {
         denied = desk.denied;
         changes = desk.changes;
       };
-      policy = desk.decider.now.policy.now;
+      decider = desk.decider.now;
     } };
 
     ghost invariant = { λ desk. (desk.keeper.decider ≡ desk.decider.now)
@@ -56,7 +54,7 @@ impl<'d, 'p> Model for Desk<'d, 'p> {
         × AreNamed desk.keeper.phase desk.passes
         × (desk.denied ≤ desk.calls)
         × (number_of desk.keeper.phase ≤ 1048575)
-        × AreVersions (length desk.decider.now.policy.now.versions) desk.keeper.phase };
+        × AreVersions (D.decides desk.decider.now).versions desk.keeper.phase };
 }
 
 /// What a client's call got, and the policy number under which it was done.
@@ -66,16 +64,12 @@ pub struct Acted {
     pub number: u32,
 }
 
-impl<'d, 'p> Desk<'d, 'p> {
+impl<'d, D: Decider> Desk<'d, D> {
     /// The desk before the first line.
-    pub fn new(
-        alloc: Global,
-        decider: &'d Walking<'p>,
-        opening: FileOpening,
-    ) -> Result<Desk<'d, 'p>, Memory>
-        requires opening { IsOpening (decisions_of decider.now.policy.now) opening }
+    pub fn new(alloc: Global, decider: &'d D, opening: FileOpening) -> Result<Desk<'d, D>, Memory>
+        requires opening { IsOpening (D.decides decider.now) opening }
         requires few { length opening.clients < 256 }
-        ensures { IfOk result (λ desk. desk ≡ record { day = Serial.morning_of opening; policy = decider.now.policy.now }) }
+        ensures { IfOk result (λ desk. desk ≡ record { day = Serial.morning_of opening; decider = decider.now }) }
     {
         let core = file_manager::new(alloc, opening)?;
         Ok(Desk {
@@ -99,11 +93,11 @@ impl<'d, 'p> Desk<'d, 'p> {
         requires formed { IsFormed self.old.day.files client call }
         requires client { client < 64 }
         requires countable { self.old.day.calls + 1 < 2 ^ 64 }
-        ensures reply { IfOk result (λ acted. acted.reply ≡ (Serial.answer_on (decisions_of self.old.policy) self.old.day client call).reply) }
+        ensures reply { IfOk result (λ acted. acted.reply ≡ (Serial.answer_on (D.decides self.old.decider) self.old.day client call).reply) }
         ensures number { IfOk result (λ acted. acted.number ≡ Serial.acting_number self.old.day client) }
-        ensures day { OnOk result (self.new.day ≡ Serial.day_after (decisions_of self.old.policy) self.old.day (Run.File client call)) }
+        ensures day { OnOk result (self.new.day ≡ Serial.day_after (D.decides self.old.decider) self.old.day (Run.File client call)) }
         ensures opening { self.new.day.files.opening ≡ self.old.day.files.opening }
-        ensures policy { self.new.policy ≡ self.old.policy }
+        ensures decider { self.new.decider ≡ self.old.decider }
     {
         let number = self.acting(client);
         let version = self.keeper.phase().version_at(number);
@@ -132,9 +126,9 @@ impl<'d, 'p> Desk<'d, 'p> {
     /// A client takes a pass of the newest number, and holds it.
     pub fn begin(&mut self, client: u8)
         requires { client < 64 }
-        ensures day { self.new.day ≡ Serial.day_after (decisions_of self.old.policy) self.old.day (Run.Begin client) }
+        ensures day { self.new.day ≡ Serial.day_after (D.decides self.old.decider) self.old.day (Run.Begin client) }
         ensures opening { self.new.day.files.opening ≡ self.old.day.files.opening }
-        ensures policy { self.new.policy ≡ self.old.policy }
+        ensures decider { self.new.decider ≡ self.old.decider }
     {
         if let None = self.passes.held(client) {
             let number = self.keeper.phase().number();
@@ -145,9 +139,9 @@ impl<'d, 'p> Desk<'d, 'p> {
     /// A client gives its held pass back.
     pub fn end(&mut self, client: u8)
         requires { client < 64 }
-        ensures day { self.new.day ≡ Serial.day_after (decisions_of self.old.policy) self.old.day (Run.End client) }
+        ensures day { self.new.day ≡ Serial.day_after (D.decides self.old.decider) self.old.day (Run.End client) }
         ensures opening { self.new.day.files.opening ≡ self.old.day.files.opening }
-        ensures policy { self.new.policy ≡ self.old.policy }
+        ensures decider { self.new.decider ≡ self.old.decider }
     {
         if let Some(_number) = self.passes.held(client) {
             self.passes.leave(client);
@@ -156,10 +150,10 @@ impl<'d, 'p> Desk<'d, 'p> {
 
     /// The administrator chooses a version.
     pub fn notify(&mut self, alloc: Global, ver: u8) -> Result<u32, NotifyFault>
-        ensures said { IsSaid result (Serial.refusal_of (decisions_of self.old.policy) self.old.day ver) (number_of self.old.day.phase + 1) }
-        ensures day { Serial.IsDayUnlessMemory result self.new.day (Serial.day_after (decisions_of self.old.policy) self.old.day (Run.Notify ver)) }
+        ensures said { IsSaid result (Serial.refusal_of (D.decides self.old.decider) self.old.day ver) (number_of self.old.day.phase + 1) }
+        ensures day { Serial.IsDayUnlessMemory result self.new.day (Serial.day_after (D.decides self.old.decider) self.old.day (Run.Notify ver)) }
         ensures opening { self.new.day.files.opening ≡ self.old.day.files.opening }
-        ensures policy { self.new.policy ≡ self.old.policy }
+        ensures decider { self.new.decider ≡ self.old.decider }
     {
         self.keeper.notify(alloc, ver, MOST)
     }
@@ -168,9 +162,9 @@ impl<'d, 'p> Desk<'d, 'p> {
     pub fn acknowledge(&mut self) -> Ack
         requires { self.old.day.changes + 1 < 2 ^ 64 }
         ensures answer { result ≡ Serial.ack_on self.old.day }
-        ensures day { self.new.day ≡ Serial.day_after (decisions_of self.old.policy) self.old.day Run.Ack }
+        ensures day { self.new.day ≡ Serial.day_after (D.decides self.old.decider) self.old.day Run.Ack }
         ensures opening { self.new.day.files.opening ≡ self.old.day.files.opening }
-        ensures policy { self.new.policy ≡ self.old.policy }
+        ensures decider { self.new.decider ≡ self.old.decider }
     {
         let older = self.passes.older(self.keeper.phase().number());
         let ack = self.keeper.acknowledge(older);

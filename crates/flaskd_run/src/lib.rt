@@ -9,7 +9,6 @@ mod status;
 mod stops;
 mod texts;
 mod top;
-mod walking;
 mod writing;
 
 pub use reading::INPUT_LIMIT;
@@ -17,6 +16,3 @@ pub use said::status_text;
 pub use status::Status;
 pub use stops::{NoStops, Stops};
 pub use top::flaskd;
-
-#[cfg(test)]
-mod tests;

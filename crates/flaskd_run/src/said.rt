@@ -1,4 +1,6 @@
 use crate::status::Status;
+use access_vectors::{class_name, perm_name};
+use flask_sid::Name;
 use std::alloc::{AllocError, Global};
 use text_lines::FaultKind;
 
@@ -11,11 +13,29 @@ pub fn status_text(alloc: Global, status: &Status) -> Result<String, AllocError>
             let kind = kind_text(*kind);
             format!(in alloc; "line {line}: {kind}")
         }
+        Status::Neverallow {
+            version,
+            line,
+            s,
+            t,
+            perm,
+        } => {
+            let (s, t) = (text_of(s), text_of(t));
+            let class = class_name(perm.class());
+            let perm = perm_name(*perm);
+            format!(in alloc; "version {version} line {line}: neverallow {s} {t} {class} {perm}")
+        }
+        Status::TooManyContexts => String::from_str(alloc, "more than 4095 contexts"),
         Status::ReadFault => String::from_str(alloc, "read fault"),
         Status::WriteFault => String::from_str(alloc, "write fault"),
         Status::TooLarge => String::from_str(alloc, "input larger than 4194304 bytes"),
         Status::Memory => String::from_str(alloc, "memory"),
     }
+}
+
+/// A name as text. Its bytes are ASCII.
+fn text_of(name: &Name) -> &str {
+    str::from_utf8(name.as_bytes()).unwrap_or("")
 }
 
 fn kind_text(kind: FaultKind) -> &'static str {

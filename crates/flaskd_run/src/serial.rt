@@ -2,25 +2,25 @@
 
 ghost use Rattle.std.specs.Prelude.{◌≡◌, ◌+◌, ◌<◌, ◌≤◌, ◌^◌, ◌++◌, [], length, map, All, Err, IfOk, IfErr, OnOk, OnErr};
 ghost use Rattle.flask_io.specs.Streams.{Adds, HasCause};
+ghost use Rattle.file_manager.specs.Plain.{IsOpening};
 ghost use Rattle.file_manager.specs.declared.opening.Node.{Node};
-ghost use Rattle.session_text.specs.Sessions.{IsRun, IsCall};
+ghost use Rattle.session_text.specs.Sessions.{IsSession, IsRun, IsCall};
 ghost use Rattle.session_text.specs.declared.session.Run.{Run};
 ghost use Rattle.session_text.specs.declared.session.ClientLine.{ClientLine};
 ghost use Rattle.flaskd_run.specs.Serial;
-ghost use Rattle.flaskd_run.specs.Walking.{decisions_of};
 ghost use Rattle.flaskd_run.specs.Writing.{AddsFront};
 ghost use Rattle.flaskd_run.specs.declared.serial.RunStop.{RunStop};
 ghost use Rattle.flaskd_run.specs.declared.serial.RunStop.TheVariants as run_stop;
 
 use crate::desk::Desk;
 use crate::texts::{put_ack, put_admin, put_client, put_notice, put_reply, put_summary};
-use crate::walking::Walking;
 use crate::writing::{WriteFault, write_line};
+use access_vectors::Decider;
 use file_manager::{FileCall, FileOpening, Node};
 use flask_io::Sink;
 use flask_sid::{Memory, Piece, Rows, Sid};
 use manager_history::NotifyFault;
-use session_text::{ClientLine, Run, RunLine, Session, SessionParts};
+use session_text::{ClientLine, Run, RunLine, SessionParts};
 use std::alloc::Global;
 
 /// Why a run stopped before its text was written.
@@ -80,9 +80,9 @@ fn name_of(clients: &[ClientLine], client: u8) -> &[u8]
 }
 
 /// Runs a client's call, and puts its line.
-fn call_line(
+fn call_line<D: Decider>(
     alloc: Global,
-    desk: &mut Desk<'_, '_>,
+    desk: &mut Desk<'_, D>,
     clients: &[ClientLine],
     line: u32,
     client: u8,
@@ -95,10 +95,10 @@ fn call_line(
     requires opening { length desk.old.day.files.opening.clients ≡ length clients.now }
     requires formed { IsCall call }
     requires countable { desk.old.day.calls + 1 < 2 ^ 64 }
-    ensures text { OnOk result (out.new ≡ Serial.line_text (decisions_of desk.old.policy) clients.now desk.old.day line (Run.File client call)) }
-    ensures day { OnOk result (desk.new.day ≡ Serial.day_after (decisions_of desk.old.policy) desk.old.day (Run.File client call)) }
+    ensures text { OnOk result (out.new ≡ Serial.line_text (D.decides desk.old.decider) clients.now desk.old.day line (Run.File client call)) }
+    ensures day { OnOk result (desk.new.day ≡ Serial.day_after (D.decides desk.old.decider) desk.old.day (Run.File client call)) }
     ensures opening { desk.new.day.files.opening ≡ desk.old.day.files.opening }
-    ensures policy { desk.new.policy ≡ desk.old.policy }
+    ensures decider { desk.new.decider ≡ desk.old.decider }
 {
     let acted = desk.call(alloc, line, client, call)?;
     put_client(out, line, name_of(clients, client), acted.number)?;
@@ -107,8 +107,8 @@ fn call_line(
 }
 
 /// Runs a `begin` line, and puts it.
-fn begin_line(
-    desk: &mut Desk<'_, '_>,
+fn begin_line<D: Decider>(
+    desk: &mut Desk<'_, D>,
     clients: &[ClientLine],
     line: u32,
     client: u8,
@@ -117,10 +117,10 @@ fn begin_line(
     requires out { out.old ≡ [] }
     requires client { client < length clients.now }
     requires few { length clients.now ≤ 62 }
-    ensures text { OnOk result (out.new ≡ Serial.line_text (decisions_of desk.old.policy) clients.now desk.old.day line (Run.Begin client)) }
-    ensures day { OnOk result (desk.new.day ≡ Serial.day_after (decisions_of desk.old.policy) desk.old.day (Run.Begin client)) }
+    ensures text { OnOk result (out.new ≡ Serial.line_text (D.decides desk.old.decider) clients.now desk.old.day line (Run.Begin client)) }
+    ensures day { OnOk result (desk.new.day ≡ Serial.day_after (D.decides desk.old.decider) desk.old.day (Run.Begin client)) }
     ensures opening { desk.new.day.files.opening ≡ desk.old.day.files.opening }
-    ensures policy { desk.new.policy ≡ desk.old.policy }
+    ensures decider { desk.new.decider ≡ desk.old.decider }
 {
     let number = desk.acting(client);
     desk.begin(client);
@@ -129,8 +129,8 @@ fn begin_line(
 }
 
 /// Runs an `end` line, and puts it.
-fn end_line(
-    desk: &mut Desk<'_, '_>,
+fn end_line<D: Decider>(
+    desk: &mut Desk<'_, D>,
     clients: &[ClientLine],
     line: u32,
     client: u8,
@@ -139,10 +139,10 @@ fn end_line(
     requires out { out.old ≡ [] }
     requires client { client < length clients.now }
     requires few { length clients.now ≤ 62 }
-    ensures text { OnOk result (out.new ≡ Serial.line_text (decisions_of desk.old.policy) clients.now desk.old.day line (Run.End client)) }
-    ensures day { OnOk result (desk.new.day ≡ Serial.day_after (decisions_of desk.old.policy) desk.old.day (Run.End client)) }
+    ensures text { OnOk result (out.new ≡ Serial.line_text (D.decides desk.old.decider) clients.now desk.old.day line (Run.End client)) }
+    ensures day { OnOk result (desk.new.day ≡ Serial.day_after (D.decides desk.old.decider) desk.old.day (Run.End client)) }
     ensures opening { desk.new.day.files.opening ≡ desk.old.day.files.opening }
-    ensures policy { desk.new.policy ≡ desk.old.policy }
+    ensures decider { desk.new.decider ≡ desk.old.decider }
 {
     let number = desk.acting(client);
     desk.end(client);
@@ -151,19 +151,19 @@ fn end_line(
 }
 
 /// Runs a `notify` line, and puts it.
-fn notify_line(
+fn notify_line<D: Decider>(
     alloc: Global,
-    desk: &mut Desk<'_, '_>,
+    desk: &mut Desk<'_, D>,
     clients: &[ClientLine],
     line: u32,
     ver: u8,
     out: &mut Piece,
 ) -> Result<(), Memory>
     requires out { out.old ≡ [] }
-    ensures text { OnOk result (out.new ≡ Serial.line_text (decisions_of desk.old.policy) clients.now desk.old.day line (Run.Notify ver)) }
-    ensures day { OnOk result (desk.new.day ≡ Serial.day_after (decisions_of desk.old.policy) desk.old.day (Run.Notify ver)) }
+    ensures text { OnOk result (out.new ≡ Serial.line_text (D.decides desk.old.decider) clients.now desk.old.day line (Run.Notify ver)) }
+    ensures day { OnOk result (desk.new.day ≡ Serial.day_after (D.decides desk.old.decider) desk.old.day (Run.Notify ver)) }
     ensures opening { desk.new.day.files.opening ≡ desk.old.day.files.opening }
-    ensures policy { desk.new.policy ≡ desk.old.policy }
+    ensures decider { desk.new.decider ≡ desk.old.decider }
 {
     let said = desk.notify(alloc, ver);
     if let Err(NotifyFault::Memory) = &said {
@@ -175,18 +175,18 @@ fn notify_line(
 }
 
 /// Runs an `ack` line, and puts it.
-fn ack_line(
-    desk: &mut Desk<'_, '_>,
+fn ack_line<D: Decider>(
+    desk: &mut Desk<'_, D>,
     clients: &[ClientLine],
     line: u32,
     out: &mut Piece,
 ) -> Result<(), Memory>
     requires out { out.old ≡ [] }
     requires countable { desk.old.day.changes + 1 < 2 ^ 64 }
-    ensures text { OnOk result (out.new ≡ Serial.line_text (decisions_of desk.old.policy) clients.now desk.old.day line Run.Ack) }
-    ensures day { OnOk result (desk.new.day ≡ Serial.day_after (decisions_of desk.old.policy) desk.old.day Run.Ack) }
+    ensures text { OnOk result (out.new ≡ Serial.line_text (D.decides desk.old.decider) clients.now desk.old.day line Run.Ack) }
+    ensures day { OnOk result (desk.new.day ≡ Serial.day_after (D.decides desk.old.decider) desk.old.day Run.Ack) }
     ensures opening { desk.new.day.files.opening ≡ desk.old.day.files.opening }
-    ensures policy { desk.new.policy ≡ desk.old.policy }
+    ensures decider { desk.new.decider ≡ desk.old.decider }
 {
     let ack = desk.acknowledge();
     put_admin(out, line)?;
@@ -195,9 +195,9 @@ fn ack_line(
 }
 
 /// Runs a line, and puts what it prints.
-fn run_line(
+fn run_line<D: Decider>(
     alloc: Global,
-    desk: &mut Desk<'_, '_>,
+    desk: &mut Desk<'_, D>,
     clients: &[ClientLine],
     line: RunLine,
     out: &mut Piece,
@@ -208,10 +208,10 @@ fn run_line(
     requires opening { length desk.old.day.files.opening.clients ≡ length clients.now }
     requires calls { desk.old.day.calls + 1 < 2 ^ 64 }
     requires changes { desk.old.day.changes + 1 < 2 ^ 64 }
-    ensures text { OnOk result (out.new ≡ Serial.line_text (decisions_of desk.old.policy) clients.now desk.old.day line.line line.run) }
-    ensures day { OnOk result (desk.new.day ≡ Serial.day_after (decisions_of desk.old.policy) desk.old.day line.run) }
+    ensures text { OnOk result (out.new ≡ Serial.line_text (D.decides desk.old.decider) clients.now desk.old.day line.line line.run) }
+    ensures day { OnOk result (desk.new.day ≡ Serial.day_after (D.decides desk.old.decider) desk.old.day line.run) }
     ensures opening { desk.new.day.files.opening ≡ desk.old.day.files.opening }
-    ensures policy { desk.new.policy ≡ desk.old.policy }
+    ensures decider { desk.new.decider ≡ desk.old.decider }
 {
     let RunLine { line, run } = line;
     match run {
@@ -224,9 +224,9 @@ fn run_line(
 }
 
 /// Runs all lines and writes what they print, each line in a write of its own, and then the summary.
-fn run_lines<K: Sink>(
+fn run_lines<D: Decider, K: Sink>(
     alloc: Global,
-    desk: &mut Desk<'_, '_>,
+    desk: &mut Desk<'_, D>,
     clients: &[ClientLine],
     lines: Vec<RunLine>,
     sink: &mut K,
@@ -237,9 +237,9 @@ fn run_lines<K: Sink>(
     requires calls { desk.old.day.calls ≡ 0 }
     requires changes { desk.old.day.changes ≡ 0 }
     ensures ok { OnOk result (Adds (K.written sink.old) (K.written sink.new)
-        (Serial.lines_text (decisions_of desk.old.policy) clients.now desk.old.day lines.items)) }
+        (Serial.lines_text (D.decides desk.old.decider) clients.now desk.old.day lines.items)) }
     ensures err { OnErr result (AddsFront (K.written sink.old) (K.written sink.new)
-        (Serial.lines_text (decisions_of desk.old.policy) clients.now desk.old.day lines.items)) }
+        (Serial.lines_text (D.decides desk.old.decider) clients.now desk.old.day lines.items)) }
     ensures cause { HasCause (K.faults sink.old) (K.faults sink.new) (result ≡ Err RunStop.WriteFault) }
 {
     let mut out = Piece::new(alloc);
@@ -267,21 +267,57 @@ fn put_line<K: Sink>(sink: &mut K, out: &Piece) -> Result<(), RunStop>
     }
 }
 
-/// Runs a session and writes its text. Where it stops before, a front of the text was written.
-#[tactic(auto, unfolding(crate::specs::Serial::serial_text))]
-pub fn serial<K: Sink>(alloc: Global, session: Session, sink: &mut K) -> Result<(), RunStop>
-    ensures ok { OnOk result (Adds (K.written sink.old) (K.written sink.new) (Serial.serial_text session)) }
-    ensures err { OnErr result (AddsFront (K.written sink.old) (K.written sink.new) (Serial.serial_text session)) }
+/// Runs lines on a file manager with this opening, and writes what they print. Where it stops before, a front of the
+/// text was written.
+fn run_opened<D: Decider, K: Sink>(
+    alloc: Global,
+    decider: &D,
+    opening: FileOpening,
+    clients: &[ClientLine],
+    lines: Vec<RunLine>,
+    sink: &mut K,
+) -> Result<(), RunStop>
+    requires opening { IsOpening (D.decides decider.now) opening }
+    requires places { length opening.clients ≡ length clients.now }
+    requires few { length clients.now ≤ 62 }
+    requires formed { All (λ line. IsRun (length clients.now) line.run) lines.items }
+    ensures ok { OnOk result (Adds (K.written sink.old) (K.written sink.new)
+        (Serial.lines_text (D.decides decider.now) clients.now (Serial.morning_of opening) lines.items)) }
+    ensures err { OnErr result (AddsFront (K.written sink.old) (K.written sink.new)
+        (Serial.lines_text (D.decides decider.now) clients.now (Serial.morning_of opening) lines.items)) }
+    ensures cause { HasCause (K.faults sink.old) (K.faults sink.new) (result ≡ Err RunStop.WriteFault) }
+{
+    let mut desk = Desk::new(alloc, decider, opening)?;
+    run_lines(alloc, &mut desk, clients, lines, sink)
+}
+
+/// Runs a session on a decider, and writes its text. Where it stops before, a front of the text was written.
+#[tactic(auto, unfolding(crate::specs::Serial::text_on))]
+pub fn serial<D: Decider, K: Sink>(
+    alloc: Global,
+    session: SessionParts,
+    decider: &D,
+    sink: &mut K,
+) -> Result<(), RunStop>
+    requires session { IsSession session }
+    requires opening { IsOpening (D.decides decider.now) (Serial.opening_of session) }
+    ensures ok { OnOk result (Adds (K.written sink.old) (K.written sink.new) (Serial.text_on (D.decides decider.now) session)) }
+    ensures err { OnErr result (AddsFront (K.written sink.old) (K.written sink.new) (Serial.text_on (D.decides decider.now) session)) }
     ensures cause { HasCause (K.faults sink.old) (K.faults sink.new) (result ≡ Err RunStop.WriteFault) }
 {
     let SessionParts {
-        policy,
+        policy: _,
         nodes,
         clients,
         lines,
-    } = session.into_parts();
+    } = session;
     let opening = opening_of(alloc, nodes, clients.as_slice())?;
-    let decider = Walking::new(&policy);
-    let mut desk = Desk::new(alloc, &decider, opening)?;
-    run_lines(alloc, &mut desk, clients.as_slice(), lines.into_vec(), sink)
+    run_opened(
+        alloc,
+        decider,
+        opening,
+        clients.as_slice(),
+        lines.into_vec(),
+        sink,
+    )
 }

@@ -10,9 +10,9 @@ use Rattle.flask_sid.specs.Names.{is_name_form, is_name, is_long, is_kind_form}
 use Rattle.flask_sid.specs.Contexts.{is_long_context}
 use Rattle.flask_sid.specs.declared.context.ContextOf.{ContextOf}
 use Rattle.text_lines.specs.declared.fault.FaultKind.{FaultKind}
-use Rattle.text_lines.specs.declared.fault.FaultKind.TheVariants.{Syntax, Order, Limit, Unknown, Twice, Unbuilt}
+use Rattle.text_lines.specs.declared.fault.FaultKind.TheVariants.{Syntax, Order, Limit, Unknown, Twice}
 use Rattle.text_lines.specs.Lines.{line_words}
-use Rattle.text_lines.specs.ResultSteps.{◌>>=◌, found_or}
+use Rattle.text_lines.specs.ResultSteps.{found_or}
 use Rattle.policy_text.specs.declared.policy.ContextLine.{ContextLine}
 use Rattle.policy_text.specs.declared.policy.KindLine.{KindLine}
 use Rattle.policy_text.specs.declared.policy.AttributeLine.{AttributeLine}
@@ -31,7 +31,7 @@ use Rattle.policy_text.specs.declared.form.LabelForm.{LabelForm}
 use Rattle.policy_text.specs.Forms.{line_form, are_members}
 use Rattle.policy_text.specs.Above.{context_limit, kind_limit, attribute_limit, listed_limit, version_limit, rule_limit, is_kind, is_attribute, has_context, is_long_pattern, is_long_label, has_version, listed_count, newest_rules, is_full_for}
 use Rattle.policy_text.specs.Known.{pattern_of, deciding_rule, labelling_rule}
-use Rattle.policy_text.specs.Grammar.{with_kind, with_context, with_listed, with_rule, context_read, kind_read, attribute_read, listed_read, version_read, decided_read, labelled_read, below_header, is_unbuilt, built, no_parts, form_read, words_read, line_read, is_whole}
+use Rattle.policy_text.specs.Grammar.{with_kind, with_context, with_listed, with_rule, context_read, kind_read, attribute_read, listed_read, version_read, decided_read, labelled_read, below_header, no_parts, form_read, words_read, line_read, is_whole}
 use Rattle.policy_text.specs.Kept.{Grows, is_kind_name, MayKind, MayContext, MayAttribute, IsApart, MayPattern, IsRule, MayRule, MayVersion, Grown, Kept, GrownAbove}
 use Rattle.policy_text.proofs.GrowsLemmas.{grows_snoc, grows_more, none_snoc, all_more, unless, after}
 use Rattle.policy_text.proofs.FormLemmas.{GoodContext, GoodPattern, GoodLabel, Good, if_some, good_line}
@@ -370,16 +370,6 @@ below_keeps n form.Version policy grown good = version_keeps n policy grown
 below_keeps n (form.Decided decision pattern) policy grown good = decided_keeps n decision pattern policy grown good
 below_keeps n (form.Labelled labelling label) policy grown good = labelled_keeps n labelling label policy grown good
 
--- what is not refused as unbuilt
-built_keeps : (said : Form) (r : Result PolicyParts FaultKind) → IfOk r Grown → IfOk (built said r) Grown
-unfolding built
-built_keeps said r h = by_test (is_unbuilt said) r h
-  where
-    by_test : (b : Bool) (q : Result PolicyParts FaultKind) → IfOk q Grown → IfOk (cond b (q >>= λ next. Err Unbuilt) q) Grown
-    by_test true (Ok next) g = tt
-    by_test true (Err e) g = tt
-    by_test false q g = g
-
 -- the policy that says nothing
 no_parts_grown : Grown no_parts
 no_parts_grown = record { kinds = tt; contexts = tt; attributes = tt; apart = tt; nevers = tt; silent = tt; loud = tt; listed = omega arith; versions = tt }
@@ -395,7 +385,7 @@ if_ok {X = X} r x P h is =
 form_keeps : (n : ℕ) (said : Form) (above : Option PolicyParts) → GrownAbove above → Good said → IfOk (form_read n said above) GrownAbove
 unfolding form_read
 form_keeps n said (Some policy) grown good =
-    after (built said (below_header n said policy)) _ GrownAbove (λ next is. if_ok (built said (below_header n said policy)) next Grown (built_keeps said _ (below_keeps n said policy grown good)) is)
+    after (below_header n said policy) _ GrownAbove (λ next is. if_ok (below_header n said policy) next Grown (below_keeps n said policy grown good) is)
 form_keeps n form.Header None grown good = no_parts_grown
 form_keeps n (form.Context context) None grown good = tt
 form_keeps n (form.Kind name) None grown good = tt

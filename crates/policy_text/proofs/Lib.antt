@@ -7,3 +7,4 @@ pub mod GrowsLemmas
 pub mod FormLemmas
 pub mod DeclaredLemmas
 pub mod KeptLemmas
+pub mod HintLemmas

@@ -1,12 +1,12 @@
 -- What a line of a policy text asks of the lines above it, and what it adds to them: the policy that a text is, or its
 -- first faulty line.
-use Rattle.std.specs.Prelude.{ℕ, ◌+◌, Bool, true, false, ◌&&◌, ◌||◌, not, ◌==◌, nat_le, List, [], ◌∷◌, ◌++◌, length, Option, Some, None, Result, Ok, Err, if◌then◌else◌}
+use Rattle.std.specs.Prelude.{ℕ, ◌+◌, Bool, ◌&&◌, ◌||◌, not, ◌==◌, nat_le, List, [], ◌∷◌, ◌++◌, length, Option, Some, None, Result, Ok, Err, if◌then◌else◌}
 use Rattle.std.specs.List.{list_all, list_any}
 use Rattle.flask_sid.specs.Names.{is_long}
 use Rattle.flask_sid.specs.Contexts.{is_long_context}
 use Rattle.flask_sid.specs.declared.context.ContextOf.{ContextOf}
 use Rattle.text_lines.specs.declared.fault.FaultKind.{FaultKind}
-use Rattle.text_lines.specs.declared.fault.FaultKind.TheVariants.{Syntax, Order, Limit, Unknown, Twice, Ended, Unbuilt}
+use Rattle.text_lines.specs.declared.fault.FaultKind.TheVariants.{Syntax, Order, Limit, Unknown, Twice, Ended}
 use Rattle.text_lines.specs.Lines.{lines_of, line_words}
 use Rattle.text_lines.specs.ResultSteps.{◌>>=◌, found_or, LineFault, lines_fold}
 use Rattle.policy_text.specs.declared.policy.Pattern.{Pattern}
@@ -123,16 +123,6 @@ below_header n form.Version policy = version_read n policy
 below_header n (form.Decided decision pattern) policy = decided_read n decision pattern policy
 below_header n (form.Labelled labelling label) policy = labelled_read n labelling label policy
 
--- a line whose effect is not built yet
-abbrev pub is_unbuilt : Form → Bool
-is_unbuilt (form.Listed Never pattern) = true
-is_unbuilt (form.Labelled labelling label) = true
-is_unbuilt said = false
-
--- a faultless line whose effect is not built yet is refused as such
-unfoldable pub built : {X : Type 0} → Form → Result X FaultKind → Result X FaultKind
-built form said = if is_unbuilt form then (said >>= λ next. Err Unbuilt) else said
-
 -- the policy that says nothing
 abbrev pub no_parts : PolicyParts
 no_parts = record { contexts = []; kinds = []; attributes = []; nevers = []; silent = []; loud = []; versions = [] }
@@ -141,7 +131,7 @@ no_parts = record { contexts = []; kinds = []; attributes = []; nevers = []; sil
 unfoldable pub form_read : ℕ → Form → Option PolicyParts → Result (Option PolicyParts) FaultKind
 form_read n form.Header None = Ok (Some no_parts)
 form_read n form None = Err Order
-form_read n form (Some policy) = built form (below_header n form policy) >>= λ next. Ok (Some next)
+form_read n form (Some policy) = below_header n form policy >>= λ next. Ok (Some next)
 
 -- what a line says, if anything
 unfoldable pub words_read : ℕ → List (List ℕ) → Option PolicyParts → Result (Option PolicyParts) FaultKind

@@ -1,9 +1,11 @@
-ghost use Rattle.std.specs.Prelude.{◌≡◌, ◌<◌, ◌^◌, length};
+ghost use Rattle.std.specs.Prelude.{◌≡◌, ◌<◌, ◌^◌, ◌||◌, true, length};
+ghost use Rattle.std.specs.Bool.{OnTrue};
 ghost use Rattle.std.specs.List.{list_all, list_any};
 ghost use Rattle.flask_sid.specs.Names.{is_long};
 ghost use Rattle.policy_text.specs.Above;
 
 use crate::form::{LabelForm, PatternForm};
+use crate::hints::Hints;
 use crate::policy::{PolicyParts, WhoOf};
 use flask_sid::{Context, ContextOf, Word};
 use text_lines::Words;
@@ -55,14 +57,86 @@ impl PolicyParts {
             .any(|line| is_same_context(&line.context, context))
     }
 
-    pub(crate) fn is_known(&self, who: &WhoOf<Word<'_>>) -> bool
+    pub(crate) fn is_known(&self, who: &WhoOf<Word<'_>>, hints: &mut Hints) -> bool
         ensures { result ≡ Above.is_known_who self.now.kinds self.now.attributes who.now }
     {
         match who {
-            WhoOf::Named(name) => self.is_kind(name) || self.is_attribute(name),
+            WhoOf::Named(name) => self.is_named(name, hints),
             WhoOf::Any => true,
             WhoOf::Itself => true,
         }
+    }
+
+    /// Whether a type or an attribute has this name. Types are numbered before attributes for the hints.
+    fn is_named(&self, name: &Word<'_>, hints: &mut Hints) -> bool
+        ensures { result ≡ (Above.is_kind self.now.kinds name.now || Above.is_attribute self.now.attributes name.now) }
+    {
+        let guess = hints.guess(name);
+        if self.is_kind_at(guess, name) || self.is_attribute_at(guess, name) {
+            return true;
+        }
+        if self.is_kind(name) {
+            hints.learn(name, self.kind_place(name));
+            return true;
+        }
+        if self.is_attribute(name) {
+            hints.learn(name, self.attribute_place(name));
+            return true;
+        }
+        false
+    }
+
+    /// Whether a type has this name.
+    pub(crate) fn is_kind_by(&self, name: &Word<'_>, hints: &mut Hints) -> bool
+        ensures { result ≡ Above.is_kind self.now.kinds name.now }
+    {
+        if self.is_kind_at(hints.guess(name), name) {
+            return true;
+        }
+        if self.is_kind(name) {
+            hints.learn(name, self.kind_place(name));
+            return true;
+        }
+        false
+    }
+
+    /// Whether the type of that number has this name.
+    fn is_kind_at(&self, number: usize, name: &Word<'_>) -> bool
+        ensures { OnTrue result (Above.is_kind self.now.kinds name.now ≡ true) }
+    {
+        match self.kinds.get(number) {
+            None => false,
+            Some(kind) => kind.name.is(name),
+        }
+    }
+
+    /// Whether the attribute of that number, counted behind the types, has this name.
+    fn is_attribute_at(&self, number: usize, name: &Word<'_>) -> bool
+        ensures { OnTrue result (Above.is_attribute self.now.attributes name.now ≡ true) }
+    {
+        match self.attributes.get(number.wrapping_sub(KIND_LIMIT)) {
+            None => false,
+            Some(attribute) => attribute.name.is(name),
+        }
+    }
+
+    /// The number of a type of this name, for the hints.
+    fn kind_place(&self, name: &Word<'_>) -> usize {
+        let kinds = self.kinds.as_slice();
+        kinds
+            .iter()
+            .position(|kind| kind.name.is(name))
+            .unwrap_or(usize::MAX)
+    }
+
+    /// The number of an attribute of this name, counted behind the types, for the hints.
+    fn attribute_place(&self, name: &Word<'_>) -> usize {
+        let attributes = self.attributes.as_slice();
+        attributes
+            .iter()
+            .position(|attribute| attribute.name.is(name))
+            .unwrap_or(usize::MAX)
+            .saturating_add(KIND_LIMIT)
     }
 
     pub(crate) fn listed_count(&self) -> usize
@@ -92,12 +166,12 @@ impl PolicyParts {
         }
     }
 
-    pub(crate) fn are_kinds(&self, names: Words<'_>) -> bool
+    pub(crate) fn are_kinds(&self, names: Words<'_>, hints: &mut Hints) -> bool
         ensures { result ≡ list_all (Above.is_kind self.now.kinds) names.entry }
     {
         let mut rest = names;
         'names: while let Some(name) = rest.next() {
-            if !self.is_kind(&name) {
+            if !self.is_kind_by(&name, hints) {
                 return false;
             }
         }

@@ -4,6 +4,7 @@ ghost use Rattle.policy_text.specs.Grammar;
 
 use crate::above::{ATTRIBUTE_LIMIT, KIND_LIMIT, LISTED_LIMIT, is_some_long};
 use crate::form::{Listing, PatternForm};
+use crate::hints::Hints;
 use crate::policy::{AttributeLine, ContextLine, KindLine, Pattern, PolicyParts};
 use flask_sid::{ContextOf, Memory, Name, Rows, Word, kept};
 use std::alloc::Global;
@@ -103,6 +104,7 @@ pub(crate) fn attribute_read(
     name: Word<'_>,
     members: Words<'_>,
     policy: PolicyParts,
+    hints: &mut Hints,
 ) -> Result<PolicyParts, Refusal>
     ensures { Gives result (Grammar.attribute_read line name.entry members.entry policy) }
 {
@@ -115,7 +117,7 @@ pub(crate) fn attribute_read(
     {
         return Err(Refusal::Fault(FaultKind::Limit));
     }
-    if !policy.are_kinds(members.again()) {
+    if !policy.are_kinds(members.again(), hints) {
         return Err(Refusal::Fault(FaultKind::Unknown));
     }
     if policy.is_kind(&name) || policy.is_attribute(&name) {
@@ -162,6 +164,7 @@ pub(crate) fn listed_read(
     listing: Listing,
     words: PatternForm<'_>,
     policy: PolicyParts,
+    hints: &mut Hints,
 ) -> Result<PolicyParts, Refusal>
     ensures { Gives result (Grammar.listed_read line listing words.entry policy) }
 {
@@ -171,7 +174,7 @@ pub(crate) fn listed_read(
     if words.is_long() || policy.listed_count() >= LISTED_LIMIT {
         return Err(Refusal::Fault(FaultKind::Limit));
     }
-    let pattern = policy.pattern(alloc, line, &words)?;
+    let pattern = policy.pattern(alloc, line, &words, hints)?;
     Ok(with_listed(listing, pattern, policy)?)
 }
 

@@ -5,6 +5,7 @@ ghost use Rattle.text_lines.specs.declared.fault.FaultKind.TheVariants.{Unknown}
 ghost use Rattle.policy_text.specs.Known;
 
 use crate::form::{Decision, LabelForm, Labelling, PatternForm};
+use crate::hints::Hints;
 use crate::policy::{Pattern, PolicyParts, RuleLine, Verdict, Who, WhoOf};
 use access_vectors::{Class, Vector, class_of, perm_of};
 use flask_sid::{Memory, Name, Word};
@@ -75,10 +76,11 @@ impl PolicyParts {
         alloc: Global,
         line: u32,
         words: &PatternForm<'_>,
+        hints: &mut Hints,
     ) -> Result<Pattern, Refusal>
         ensures { Gives result (found_or Unknown (Known.pattern_of line words.now self.now)) }
     {
-        if !self.is_known(&words.source) || !self.is_known(&words.target) {
+        if !self.is_known(&words.source, hints) || !self.is_known(&words.target, hints) {
             return Err(Refusal::Fault(FaultKind::Unknown));
         }
         let Some(class) = class_of(words.class.as_bytes()) else {
@@ -104,12 +106,13 @@ impl PolicyParts {
         line: u32,
         labelling: Labelling,
         words: &LabelForm<'_>,
+        hints: &mut Hints,
     ) -> Result<RuleLine, Refusal>
         ensures { Gives result (found_or Unknown (Known.labelling_rule line labelling words.now self.now)) }
     {
-        if !self.is_known(&words.source)
-            || !self.is_known(&words.target)
-            || !self.is_kind(&words.kind)
+        if !self.is_known(&words.source, hints)
+            || !self.is_known(&words.target, hints)
+            || !self.is_kind_by(&words.kind, hints)
         {
             return Err(Refusal::Fault(FaultKind::Unknown));
         }

@@ -78,9 +78,9 @@ impl PolicyParts {
         }
     }
 
-    // The type that the last matching line of a kind gives.
+    /// The type that a version's last matching line of a kind gives, or `None` exactly where no such line matches.
     #[tactic(auto, unfolding(crate::specs::Deciding::given_kind))]
-    fn given_kind(
+    pub fn given_kind(
         &self,
         labelling: Labelling,
         version: u8,

@@ -10,6 +10,7 @@ mod deciding;
 mod declarations;
 mod example;
 mod form;
+mod hints;
 mod known;
 mod labelling;
 mod line;
@@ -20,6 +21,7 @@ mod rules;
 mod text;
 
 pub use example::smallest;
+pub use form::Labelling;
 pub use policy::{
     AttributeLine, ContextLine, KindLine, Pattern, PolicyParts, RuleLine, Verdict, Version, Who,
     WhoOf,

@@ -3,7 +3,8 @@ ghost use Rattle.text_lines.specs.Refusals.{Gives};
 ghost use Rattle.policy_text.specs.Grammar;
 
 use crate::declarations::{attribute_read, context_read, kind_read, listed_read};
-use crate::form::{Form, Listing, line_form};
+use crate::form::{Form, line_form};
+use crate::hints::Hints;
 use crate::policy::PolicyParts;
 use crate::rules::{decided_read, labelled_read, version_read};
 use flask_sid::Rows;
@@ -17,12 +18,13 @@ pub(crate) fn line_read(
     number: u32,
     line: &[u8],
     above: Option<PolicyParts>,
+    hints: &mut Hints,
 ) -> Result<Option<PolicyParts>, Refusal>
     ensures said { Gives result (Grammar.line_read number line.now above) }
     ensures counted { OnOk result (number ≤ 100000) }
 {
     match line_words(number, line) {
-        Ok(words) => words_read(alloc, number, words, above),
+        Ok(words) => words_read(alloc, number, words, above, hints),
         Err(kind) => Err(Refusal::Fault(kind)),
     }
 }
@@ -33,6 +35,7 @@ fn words_read(
     number: u32,
     mut words: Words<'_>,
     above: Option<PolicyParts>,
+    hints: &mut Hints,
 ) -> Result<Option<PolicyParts>, Refusal>
     ensures { Gives result (Grammar.words_read number words.entry above) }
 {
@@ -40,7 +43,7 @@ fn words_read(
         None => Ok(above),
         Some(first) => match line_form(&first, words) {
             None => Err(Refusal::Fault(FaultKind::Syntax)),
-            Some(form) => form_read(alloc, number, form, above),
+            Some(form) => form_read(alloc, number, form, above, hints),
         },
     }
 }
@@ -51,12 +54,13 @@ fn form_read(
     number: u32,
     form: Form<'_>,
     above: Option<PolicyParts>,
+    hints: &mut Hints,
 ) -> Result<Option<PolicyParts>, Refusal>
     ensures { Gives result (Grammar.form_read number form.entry above) }
 {
     match above {
         Some(policy) => {
-            let next = built_form_read(alloc, number, form, policy)?;
+            let next = below_header(alloc, number, form, policy, hints)?;
             Ok(Some(next))
         }
         None => match form {
@@ -66,53 +70,27 @@ fn form_read(
     }
 }
 
-// A faultless line whose effect is not built yet is refused as such.
-#[tactic(auto, unfolding(crate::specs::Grammar::built))]
-fn built_form_read(
-    alloc: Global,
-    number: u32,
-    form: Form<'_>,
-    policy: PolicyParts,
-) -> Result<PolicyParts, Refusal>
-    ensures { Gives result (Grammar.built form.entry (Grammar.below_header number form.entry policy)) }
-{
-    let is_unbuilt = is_unbuilt(&form);
-    let next = below_header(alloc, number, form, policy)?;
-    if is_unbuilt {
-        Err(Refusal::Fault(FaultKind::Unbuilt))
-    } else {
-        Ok(next)
-    }
-}
-
-fn is_unbuilt(form: &Form<'_>) -> bool
-    ensures { result ≡ Grammar.is_unbuilt form.now }
-{
-    match form {
-        Form::Listed(Listing::Never, _) => true,
-        Form::Labelled(_, _) => true,
-        _ => false,
-    }
-}
-
 #[tactic(auto, unfolding(crate::specs::Grammar::below_header))]
 fn below_header(
     alloc: Global,
-    number: u32,
+    n: u32,
     form: Form<'_>,
     policy: PolicyParts,
+    hints: &mut Hints,
 ) -> Result<PolicyParts, Refusal>
-    ensures { Gives result (Grammar.below_header number form.entry policy) }
+    ensures { Gives result (Grammar.below_header n form.entry policy) }
 {
     match form {
         Form::Header => Err(Refusal::Fault(FaultKind::Order)),
-        Form::Context(context) => context_read(alloc, number, context, policy),
-        Form::Kind(name) => kind_read(alloc, number, name, policy),
-        Form::Attribute(name, members) => attribute_read(alloc, number, name, members, policy),
-        Form::Listed(listing, words) => listed_read(alloc, number, listing, words, policy),
-        Form::Version => version_read(alloc, number, policy),
-        Form::Decided(decision, words) => decided_read(alloc, number, decision, words, policy),
-        Form::Labelled(labelling, words) => labelled_read(alloc, number, labelling, words, policy),
+        Form::Context(context) => context_read(alloc, n, context, policy),
+        Form::Kind(name) => kind_read(alloc, n, name, policy),
+        Form::Attribute(name, members) => attribute_read(alloc, n, name, members, policy, hints),
+        Form::Listed(listing, words) => listed_read(alloc, n, listing, words, policy, hints),
+        Form::Version => version_read(alloc, n, policy),
+        Form::Decided(decision, words) => decided_read(alloc, n, decision, words, policy, hints),
+        Form::Labelled(labelling, words) => labelled_read(
+            alloc, n, labelling, words, policy, hints,
+        ),
     }
 }
 

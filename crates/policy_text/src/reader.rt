@@ -5,6 +5,7 @@ ghost use Rattle.text_lines.specs.declared.fault.FaultKind.TheVariants as fault_
 ghost use Rattle.policy_text.specs.Grammar;
 ghost use Rattle.policy_text.specs.Reading.{begun, read_on};
 
+use crate::hints::Hints;
 use crate::line::line_read;
 use crate::policy::PolicyParts;
 use crate::text::PolicyText;
@@ -18,6 +19,7 @@ use text_lines::{FaultKind, Refusal, TextFault, first_line};
 pub struct PolicyReader {
     number: u32,
     above: Option<PolicyParts>,
+    hints: Hints,
 }
 
 impl Model for PolicyReader {
@@ -38,6 +40,7 @@ impl PolicyReader {
         PolicyReader {
             number: 1,
             above: None,
+            hints: Hints::new(),
         }
     }
 
@@ -53,11 +56,17 @@ impl PolicyReader {
     pub fn with_line(self, alloc: Global, line: &[u8]) -> Result<PolicyReader, TextFault>
         ensures { GivesText result (read_on self line.now) }
     {
-        let PolicyReader { number, above } = self;
-        match line_read(alloc, number, line, above) {
+        let PolicyReader {
+            number,
+            above,
+            mut hints,
+        } = self;
+        hints.open(alloc);
+        match line_read(alloc, number, line, above, &mut hints) {
             Ok(above) => Ok(PolicyReader {
                 number: number + 1,
                 above,
+                hints,
             }),
             Err(Refusal::Fault(kind)) => Err(TextFault::Text { line: number, kind }),
             Err(Refusal::Memory) => Err(TextFault::Memory),
@@ -69,7 +78,11 @@ impl PolicyReader {
     pub fn finish(self) -> Result<PolicyText, TextFault>
         ensures { GivesText result (Grammar.end_read self.number self.above) }
     {
-        let PolicyReader { number, above } = self;
+        let PolicyReader {
+            number,
+            above,
+            hints: _,
+        } = self;
         match above {
             Some(policy) => {
                 if is_whole(&policy) {
@@ -114,6 +127,3 @@ pub fn read(alloc: Global, bytes: &[u8]) -> Result<PolicyText, TextFault>
     }
     reader.finish()
 }
-
-#[cfg(test)]
-mod tests;

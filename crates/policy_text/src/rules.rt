@@ -4,6 +4,7 @@ ghost use Rattle.policy_text.specs.Grammar;
 
 use crate::above::{RULE_LIMIT, VERSION_LIMIT};
 use crate::form::{Decision, LabelForm, Labelling, PatternForm};
+use crate::hints::Hints;
 use crate::known::deciding_rule;
 use crate::policy::{PolicyParts, RuleLine, Version};
 use flask_sid::{Memory, Rows};
@@ -43,6 +44,7 @@ pub(crate) fn decided_read(
     decision: Decision,
     words: PatternForm<'_>,
     policy: PolicyParts,
+    hints: &mut Hints,
 ) -> Result<PolicyParts, Refusal>
     ensures { Gives result (Grammar.decided_read line decision words.entry policy) }
 {
@@ -52,7 +54,7 @@ pub(crate) fn decided_read(
     if words.is_long() || policy.newest_count() >= RULE_LIMIT {
         return Err(Refusal::Fault(FaultKind::Limit));
     }
-    let pattern = policy.pattern(alloc, line, &words)?;
+    let pattern = policy.pattern(alloc, line, &words, hints)?;
     Ok(with_rule(deciding_rule(decision, pattern), policy)?)
 }
 
@@ -64,6 +66,7 @@ pub(crate) fn labelled_read(
     labelling: Labelling,
     words: LabelForm<'_>,
     policy: PolicyParts,
+    hints: &mut Hints,
 ) -> Result<PolicyParts, Refusal>
     ensures { Gives result (Grammar.labelled_read line labelling words.entry policy) }
 {
@@ -73,7 +76,7 @@ pub(crate) fn labelled_read(
     if words.is_long() || policy.newest_count() >= RULE_LIMIT {
         return Err(Refusal::Fault(FaultKind::Limit));
     }
-    let rule = policy.labelling_rule(alloc, line, labelling, &words)?;
+    let rule = policy.labelling_rule(alloc, line, labelling, &words, hints)?;
     Ok(with_rule(rule, policy)?)
 }
 

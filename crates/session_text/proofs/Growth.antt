@@ -2,8 +2,6 @@
 use Rattle.std.proofs.Common.{◌≡◌, ◌<◌, ◌≤◌, ◌+◌, ℕ, List, [], ◌∷◌, ◌++◌, length, All, arith, Some, zero, suc}
 use Rattle.std.proofs.lemmas.List.{length-append}
 use Rattle.std.proofs.lemmas.List.Elements.{All-append}
-use Rattle.file_manager.specs.declared.call.FileCall.{FileCall}
-use Rattle.file_manager.specs.declared.call.FileCall.TheVariants.{OpenFile, ReadFile}
 use Rattle.session_text.specs.declared.session.Run.{Run}
 use Rattle.session_text.specs.declared.session.Run.TheVariants.{File, Begin, End, Notify, Ack}
 use Rattle.session_text.specs.declared.session.RunLine.{RunLine}

@@ -1,12 +1,11 @@
 -- What is left of a text, read from here, is the whole answer.
-use Rattle.std.proofs.Common.{◌≡◌, ℕ, List, [], ◌∷◌, Result, Ok, Err}
+use Rattle.std.proofs.Common.{◌≡◌, ℕ, List, [], ◌∷◌, Ok, Err}
 use Rattle.text_lines.specs.Lines.{lines_of}
 use Rattle.text_lines.specs.ResultSteps.{LineFault}
 use Rattle.text_lines.specs.Refusals.{FailsText}
 use Rattle.text_lines.specs.declared.fault.TextFault.{TextFault}
 use Rattle.text_lines.specs.declared.fault.TextFault.TheVariants as text_fault
 use Rattle.session_text.specs.Reading.{read_line, read_lines, read_end, session_of}
-use Rattle.session_text.specs.declared.session.SessionParts.{SessionParts}
 use Rattle.session_text.specs.declared.reader.SessionReader.{SessionReader}
 
 -- what the reader makes of the rest is what the text is

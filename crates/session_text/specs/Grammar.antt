@@ -1,5 +1,5 @@
 -- What a line of a session text asks of the lines above it, and what it adds to them.
-use Rattle.std.specs.Prelude.{ℕ, ◌+◌, Bool, true, false, ◌&&◌, ◌||◌, not, ◌==◌, nat_le, nat_lt, List, [], ◌∷◌, ◌++◌, length, replicate, slice_get, slice_set, Option, Some, None, unwrap_or, Result, Ok, Err, if◌then◌else◌, codes}
+use Rattle.std.specs.Prelude.{ℕ, ◌+◌, Bool, true, false, ◌||◌, not, ◌==◌, nat_le, nat_lt, List, [], ◌∷◌, ◌++◌, length, replicate, slice_get, slice_set, Option, Some, None, is_some, unwrap_or, Result, Ok, Err, if◌then◌else◌, codes}
 use Rattle.std.specs.List.{list_any, position}
 use Rattle.std.specs.Str.{bytes_eq}
 use Rattle.flask_sid.specs.Names.{is_long}
@@ -15,25 +15,27 @@ use Rattle.file_manager.specs.declared.call.FileCall.{FileCall}
 use Rattle.file_manager.specs.declared.call.FileCall.TheVariants.{OpenFile, ReadFile}
 use Rattle.session_text.specs.PathForms.{is_long_path}
 use Rattle.session_text.specs.RunForms.{run_form}
-use Rattle.session_text.specs.declared.form.CallForm.{CallForm}
-use Rattle.session_text.specs.declared.form.CallForm.TheVariants.{Open, Read}
-use Rattle.session_text.specs.declared.form.RunForm.{RunForm}
-use Rattle.session_text.specs.declared.form.RunForm.TheVariants as form
+use Rattle.session_text.specs.Ranges.{is_long_data, is_past_place, is_past_call}
+use Rattle.session_text.specs.declared.call_forms.CallForm.{CallForm}
+use Rattle.session_text.specs.declared.call_forms.CallForm.TheVariants.{OfFile, OfProcess}
+use Rattle.session_text.specs.declared.call_forms.FileForm.TheVariants as file
+use Rattle.session_text.specs.declared.call_forms.ProcessForm.TheVariants as process
+use Rattle.session_text.specs.declared.run_forms.Manager.{Manager}
+use Rattle.session_text.specs.declared.run_forms.Manager.TheVariants as manager
+use Rattle.session_text.specs.declared.run_forms.RunForm.{RunForm}
+use Rattle.session_text.specs.declared.run_forms.RunForm.TheVariants as form
 use Rattle.file_manager.specs.declared.opening.Node.{Node}
 use Rattle.session_text.specs.declared.session.ClientLine.{ClientLine}
 use Rattle.session_text.specs.declared.session.Run.{Run}
 use Rattle.session_text.specs.declared.session.Run.TheVariants.{File, Begin, End, Notify, Ack}
 use Rattle.session_text.specs.declared.session.SessionParts.{SessionParts}
 
--- how many there may be: nodes besides the root, clients, and bytes of a data word
+-- how many there may be: nodes besides the root, and clients
 abbrev pub node_limit : ℕ
 node_limit = 4095
 
 abbrev pub client_limit : ℕ
 client_limit = 62
-
-abbrev pub data_limit : ℕ
-data_limit = 1024
 
 -- the identifier of a place among the context lines, of which there are at most 4,095
 abbrev pub sid_at : ℕ → Option ℕ
@@ -59,11 +61,6 @@ has_node nodes path = list_any (λ node. same_path node.path path) nodes
 unfoldable pub has_client : List ClientLine → List ℕ → Bool
 has_client clients name = list_any (λ client. bytes_eq client.name name) clients
 
--- a datum longer than data may be
-abbrev pub is_long_data : Option (List ℕ) → Bool
-is_long_data None = false
-is_long_data (Some bytes) = nat_lt data_limit (length bytes)
-
 -- the bytes of a file: none without a datum
 abbrev pub data_bytes : Option (List ℕ) → List ℕ
 data_bytes None = []
@@ -86,23 +83,34 @@ with_client name sid session = record session { clients = session.clients ++ rec
 abbrev pub with_line : ℕ → Run → SessionParts → SessionParts
 with_line n run session = record session { lines = session.lines ++ record { line = n; run = run } ∷ [] }
 
--- a `file` line past a limit, below so many nodes
-unfoldable pub is_past_file : List (List ℕ) → ContextOf (List ℕ) → Option (List ℕ) → ℕ → Bool
-is_past_file path context bytes nodes = is_long_path path || is_long_context context || is_long_data bytes || nat_le node_limit nodes
+-- a `dir` or `file` line past a limit, below so many nodes
+unfoldable pub is_past_node : List (List ℕ) → ContextOf (List ℕ) → ℕ → Bool
+is_past_node path context nodes = is_long_path path || is_long_context context || nat_le node_limit nodes
 
 -- a path that a node has, or the root
 unfoldable pub is_taken : List Node → List (List ℕ) → Bool
 is_taken nodes path = length path == 0 || has_node nodes path
 
+-- the identifier of a node that is to stand at a path: its directory is there, and the path is free
+unfoldable pub node_sid : List (List ℕ) → ContextOf (List ℕ) → SessionParts → Result ℕ FaultKind
+node_sid path context session =
+    if not (is_below_root path) then Err Unknown
+    else found_or Undeclared (context_sid session.policy.contexts context) >>= λ sid. placed sid
+  where
+    placed : ℕ → Result ℕ FaultKind
+    placed sid = if is_taken session.nodes path then Err Twice else Ok sid
+
 -- a `file` line
 unfoldable pub file_read : List (List ℕ) → ContextOf (List ℕ) → Option (List ℕ) → SessionParts → Result SessionParts FaultKind
 file_read path context bytes session =
-    if is_past_file path context bytes (length session.nodes) then Err Limit
-    else if not (is_below_root path) then Err Unknown
-    else found_or Undeclared (context_sid session.policy.contexts context) >>= λ sid. placed sid
-  where
-    placed : ℕ → Result SessionParts FaultKind
-    placed sid = if is_taken session.nodes path then Err Twice else Ok (with_file path sid (data_bytes bytes) session)
+    if is_past_node path context (length session.nodes) || is_long_data bytes then Err Limit
+    else node_sid path context session >>= λ sid. Ok (with_file path sid (data_bytes bytes) session)
+
+-- a `dir` line, which is not built yet
+unfoldable pub directory_read : List (List ℕ) → ContextOf (List ℕ) → SessionParts → Result SessionParts FaultKind
+directory_read path context session =
+    if is_past_node path context (length session.nodes) then Err Limit
+    else node_sid path context session >>= λ sid. Err Unbuilt
 
 -- a `client` line past a limit, below so many clients
 unfoldable pub is_past_client : List ℕ → ContextOf (List ℕ) → ℕ → Bool
@@ -112,26 +120,30 @@ is_past_client name context clients = is_long name || is_long_context context ||
 unfoldable pub is_named : List ClientLine → List ℕ → Bool
 is_named clients name = bytes_eq name (codes "admin") || has_client clients name
 
+-- the identifier of a client that is to have a name: the name is free
+unfoldable pub client_sid : List ℕ → ContextOf (List ℕ) → SessionParts → Result ℕ FaultKind
+client_sid name context session = found_or Undeclared (context_sid session.policy.contexts context) >>= λ sid. named sid
+  where
+    named : ℕ → Result ℕ FaultKind
+    named sid = if is_named session.clients name then Err Twice else Ok sid
+
 -- a `client` line
 unfoldable pub client_read : List ℕ → ContextOf (List ℕ) → SessionParts → Result SessionParts FaultKind
 client_read name context session =
     if is_past_client name context (length session.clients) then Err Limit
-    else found_or Undeclared (context_sid session.policy.contexts context) >>= λ sid. named sid
-  where
-    named : ℕ → Result SessionParts FaultKind
-    named sid = if is_named session.clients name then Err Twice else Ok (with_client name sid session)
+    else client_sid name context session >>= λ sid. Ok (with_client name sid session)
 
--- a call, with its numbers and its path in their ranges
-unfoldable pub call_read : CallForm → Result FileCall FaultKind
-call_read (Open slot path mode) =
-    if nat_lt 63 slot || is_long_path path then Err Limit else Ok (OpenFile slot path mode)
-call_read (Read slot offset most) =
-    if nat_lt 63 slot || nat_lt 65536 offset || most == 0 || nat_lt 1024 most then Err Limit else Ok (ReadFile slot offset most)
+-- an `initial` line, which is not built yet
+unfoldable pub initial_read : ContextOf (List ℕ) → SessionParts → Result SessionParts FaultKind
+initial_read context session =
+    if is_long_context context then Err Limit
+    else found_or Undeclared (context_sid session.policy.contexts context) >>= λ sid. Err Unbuilt
 
--- a call whose path is a name in the root; no other is built yet
-abbrev pub is_built_call : CallForm → Bool
-is_built_call (Open slot path mode) = length path == 1
-is_built_call (Read slot offset most) = true
+-- a `port` line, which is not built yet
+unfoldable pub port_read : ℕ → ContextOf (List ℕ) → SessionParts → Result SessionParts FaultKind
+port_read port context session =
+    if is_past_place port || is_long_context context then Err Limit
+    else found_or Undeclared (context_sid session.policy.contexts context) >>= λ sid. Err Unbuilt
 
 -- a session whose lines run: what it says so far, and which clients hold a pass, by number
 pub record Running : Type 0 where
@@ -162,40 +174,74 @@ running_on running n run = record { session = with_line n run running.session; h
 abbrev pub held_on : Running → ℕ → Run → ℕ → Bool → Running
 held_on running n run client now = record { session = with_line n run running.session; held = slice_set running.held client now }
 
+-- the client that a call names besides its caller is declared
+unfoldable pub is_receiver_known : List ClientLine → CallForm → Bool
+is_receiver_known clients (OfFile (file.Give slot client target)) = has_client clients client
+is_receiver_known clients said = true
+
+-- the context that a call names is declared
+unfoldable pub is_context_known : List ContextLine → CallForm → Bool
+is_context_known contexts (OfFile (file.Relabel path context)) = is_some (context_sid contexts context)
+is_context_known contexts (OfProcess (process.Exec pid context)) = is_some (context_sid contexts context)
+is_context_known contexts said = true
+
+-- the call of the file manager, where it is of a built form: an open of a name in the root, or a read
+unfoldable pub built_call : CallForm → Option FileCall
+built_call (OfFile (file.Open slot path mode)) = if length path == 1 then Some (OpenFile slot path mode) else None
+built_call (OfFile (file.Read slot offset most)) = Some (ReadFile slot offset most)
+built_call said = None
+
 -- a client's call
 unfoldable pub client_call_read : ℕ → List ℕ → CallForm → Running → Result Running FaultKind
 client_call_read n name said running =
-    if is_long name then Err Limit
-    else call_read said >>= λ call. found_or Unknown (client_number running.session.clients name) >>= λ client. built client call
+    if is_long name || is_past_call said then Err Limit
+    else found_or Unknown (client_number running.session.clients name) >>= λ client. named client
   where
-    built : ℕ → FileCall → Result Running FaultKind
-    built client call = if is_built_call said then Ok (running_on running n (File client call)) else Err Unbuilt
+    named : ℕ → Result Running FaultKind
+    named client =
+        if not (is_receiver_known running.session.clients said) then Err Unknown
+        else if not (is_context_known running.session.policy.contexts said) then Err Undeclared
+        else found_or Unbuilt (built_call said) >>= λ call. Ok (running_on running n (File client call))
+
+-- a client of that name holds a pass of that manager: so far only of the file manager
+unfoldable pub holds_of : Manager → Running → List ℕ → Bool
+holds_of manager.File running name = holds running name
+holds_of other running name = false
+
+-- a session in which that client takes a pass of a manager or gives it back, where that is built
+unfoldable pub pass_on : Manager → Running → ℕ → Run → ℕ → Bool → Result Running FaultKind
+pass_on manager.File running n run client now = Ok (held_on running n run client now)
+pass_on other running n run client now = Err Unbuilt
 
 -- a `begin` line
-unfoldable pub begin_read : ℕ → List ℕ → Running → Result Running FaultKind
-begin_read n name running =
-    if holds running name then Err Order
+unfoldable pub begin_read : ℕ → List ℕ → Manager → Running → Result Running FaultKind
+begin_read n name manager running =
+    if holds_of manager running name then Err Order
     else if is_long name then Err Limit
-    else found_or Unknown (client_number running.session.clients name) >>= λ client. Ok (held_on running n (Begin client) client true)
+    else found_or Unknown (client_number running.session.clients name) >>= λ client. pass_on manager running n (Begin client) client true
 
 -- an `end` line
-unfoldable pub end_read : ℕ → List ℕ → Running → Result Running FaultKind
-end_read n name running =
-    if not (holds running name) then Err Order
-    else found_or Unknown (client_number running.session.clients name) >>= λ client. Ok (held_on running n (End client) client false)
+unfoldable pub end_read : ℕ → List ℕ → Manager → Running → Result Running FaultKind
+end_read n name manager running =
+    if not (holds_of manager running name) then Err Order
+    else found_or Unknown (client_number running.session.clients name) >>= λ client. pass_on manager running n (End client) client false
 
 -- a `notify` line
 unfoldable pub notify_read : ℕ → ℕ → Running → Result Running FaultKind
 notify_read n version running = if nat_lt 255 version then Err Limit else Ok (running_on running n (Notify version))
 
+-- an `update` line, which is not built yet
+unfoldable pub update_read : ℕ → Result Running FaultKind
+update_read most = if nat_lt 4294967295 most then Err Limit else Err Unbuilt
+
 -- a line of this form that runs
 unfoldable pub run_read : ℕ → RunForm → Running → Result Running FaultKind
 run_read n (form.Call name said) running = client_call_read n name said running
-run_read n (form.Begin name) running = begin_read n name running
-run_read n (form.End name) running = end_read n name running
+run_read n (form.Begin name manager) running = begin_read n name manager running
+run_read n (form.End name manager) running = end_read n name manager running
 run_read n (form.Notify version) running = notify_read n version running
+run_read n (form.Update most) running = update_read most
 run_read n form.Ack running = Ok (running_on running n Ack)
-run_read n form.Unbuilt running = Err Unbuilt
 
 -- what a line that runs says, if anything
 unfoldable pub run_words_read : ℕ → List (List ℕ) → Running → Result Running FaultKind

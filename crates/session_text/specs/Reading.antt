@@ -13,9 +13,9 @@ use Rattle.policy_text.specs.declared.policy.PolicyParts.{PolicyParts}
 use Rattle.policy_text.specs.Grammar.{end_read}
 use Rattle.policy_text.specs.Reading.{Reading, begun as policy_begun, read_on}
 use Rattle.session_text.specs.SetupForms.{setup_form}
-use Rattle.session_text.specs.Grammar.{Running, file_read, client_read, run_words_read, begun}
-use Rattle.session_text.specs.declared.form.SetupForm.{SetupForm}
-use Rattle.session_text.specs.declared.form.SetupForm.TheVariants as form
+use Rattle.session_text.specs.Grammar.{Running, file_read, directory_read, client_read, initial_read, port_read, run_words_read, begun}
+use Rattle.session_text.specs.declared.setup_forms.SetupForm.{SetupForm}
+use Rattle.session_text.specs.declared.setup_forms.SetupForm.TheVariants as form
 use Rattle.session_text.specs.declared.session.SessionParts.{SessionParts}
 use Rattle.session_text.specs.declared.reader.SessionReader.{SessionReader}
 use Rattle.session_text.specs.declared.reader.SessionReader.TheVariants.{Policy, Setup, Lines}
@@ -49,8 +49,11 @@ session_line_read reading line =
 unfoldable pub setup_read : ℕ → SetupForm → SessionParts → Result SessionReader FaultKind
 setup_read n (form.File path context bytes) session = file_read path context bytes session >>= λ next. Ok (Setup (n + 1) next)
 setup_read n (form.Client name context) session = client_read name context session >>= λ next. Ok (Setup (n + 1) next)
+setup_read n (form.Directory path context) session = directory_read path context session >>= λ next. Ok (Setup (n + 1) next)
+setup_read n (form.Initial what context) session = initial_read context session >>= λ next. Ok (Setup (n + 1) next)
+setup_read n (form.Port number context) session = port_read number context session >>= λ next. Ok (Setup (n + 1) next)
+setup_read n form.Audit session = Err Unbuilt
 setup_read n form.Run session = Ok (Lines (n + 1) (begun session))
-setup_read n form.Unbuilt session = Err Unbuilt
 
 -- what a session line says, if anything
 unfoldable pub setup_words_read : ℕ → List (List ℕ) → SessionParts → Result SessionReader FaultKind

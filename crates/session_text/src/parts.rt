@@ -1,7 +1,8 @@
-ghost use Rattle.std.specs.Prelude.{◌≡◌, ◌==◌, [], ◌∷◌, nat_lt, nat_le, length, IfOk, MatchOption};
+ghost use Rattle.std.specs.Prelude.{◌≡◌, ◌==◌, [], ◌∷◌, nat_lt, length, IfOk, MatchOption};
 ghost use Rattle.std.specs.List.{list_all, list_any};
 ghost use Rattle.flask_sid.specs.Names;
 ghost use Rattle.session_text.specs.PathForms;
+ghost use Rattle.session_text.specs.Arguments;
 
 use file_manager::FilePath;
 use flask_sid::{Memory, Piece, Word, cut};
@@ -84,18 +85,12 @@ impl<'a> Parts<'a> {
         true
     }
 
-    /// Whether the path is the root's or that of a name in the root.
-    pub fn is_below_root(&self) -> bool
-        ensures { result ≡ nat_le (length self.now) 1 }
+    /// Whether the path is the root's.
+    pub fn is_root(&self) -> bool
+        ensures { result ≡ Arguments.is_root self.now }
     {
         let mut parts = self.again();
-        let Some(_part) = parts.next() else {
-            return true;
-        };
-        match parts.next() {
-            None => true,
-            Some(_more) => false,
-        }
+        parts.next().is_none()
     }
 
     /// Whether the path has one part.

@@ -4,10 +4,12 @@ ghost use Rattle.text_lines.specs.declared.fault.TextFault.TheVariants as text_f
 ghost use Rattle.session_text.specs.Reading;
 ghost use Rattle.session_text.specs.Grammar;
 
-use crate::form::{SetupForm, run_form, setup_form};
+use crate::arguments::is_end;
+use crate::run_forms::run_form;
 use crate::running::{Running, run_read};
 use crate::session::Session;
-use crate::setup::{client_read, file_read};
+use crate::setup::{client_read, directory_read, file_read, initial_read, port_read};
+use crate::setup_forms::{SetupForm, setup_form};
 use policy_text::PolicyReader;
 use std::alloc::Global;
 use text_lines::{FaultKind, Refusal, TextFault, Words, first_line, line_words};
@@ -108,10 +110,7 @@ fn is_alone(mut words: Words<'_>) -> bool
 {
     match words.next() {
         None => false,
-        Some(_word) => match words.next() {
-            None => true,
-            Some(_more) => false,
-        },
+        Some(_word) => is_end(words),
     }
 }
 
@@ -175,12 +174,24 @@ fn setup_read(
             let next = file_read(alloc, path, context, bytes, session)?;
             Ok(SessionReader::Setup(number + 1, next))
         }
+        SetupForm::Directory(path, context) => {
+            let next = directory_read(alloc, path, context, session)?;
+            Ok(SessionReader::Setup(number + 1, next))
+        }
         SetupForm::Client(name, context) => {
             let next = client_read(alloc, name, context, session)?;
             Ok(SessionReader::Setup(number + 1, next))
         }
+        SetupForm::Initial(_what, context) => {
+            let next = initial_read(context, session)?;
+            Ok(SessionReader::Setup(number + 1, next))
+        }
+        SetupForm::Port(port, context) => {
+            let next = port_read(port, context, session)?;
+            Ok(SessionReader::Setup(number + 1, next))
+        }
+        SetupForm::Audit => Err(Refusal::Fault(FaultKind::Unbuilt)),
         SetupForm::Run => Ok(SessionReader::Lines(number + 1, Running::begun(alloc, session)?)),
-        SetupForm::Unbuilt => Err(Refusal::Fault(FaultKind::Unbuilt)),
     }
 }
 

@@ -1,11 +1,14 @@
 ghost use Rattle.std.specs.Prelude.{◌≡◌, ◌<◌, replicate, false, length, IfOk, IfSome};
-ghost use Rattle.text_lines.specs.Refusals.{Gives};
+ghost use Rattle.text_lines.specs.Refusals.{Gives, Fails};
 ghost use Rattle.session_text.specs.Grammar;
+ghost use Rattle.session_text.specs.Ranges;
 ghost use Rattle.session_text.specs.Sessions.{IsCall, IsRun};
 
-use crate::form::{CallForm, RunForm};
-use crate::look_up::client_number;
-use crate::session::{Run, Session};
+use crate::call_forms::{CallForm, FileForm, ProcessForm};
+use crate::look_up::{client_number, has_client};
+use crate::ranges::is_past_call;
+use crate::run_forms::{Manager, RunForm};
+use crate::session::{ClientLine, Run, Session};
 use file_manager::FileCall;
 use flask_sid::{Memory, Word};
 use std::alloc::Global;
@@ -63,6 +66,17 @@ impl Running {
         }
     }
 
+    /// Whether a client of that name holds a pass of that manager.
+    #[tactic(auto, unfolding(crate::specs::Grammar::holds_of))]
+    fn holds_of(&self, manager: Manager, name: &Word<'_>) -> bool
+        ensures { result ≡ Grammar.holds_of manager self.now name.now }
+    {
+        match manager {
+            Manager::File => self.holds(name),
+            _ => false,
+        }
+    }
+
     fn is_held(&self, client: u8) -> bool
         ensures { result ≡ Grammar.is_held self.now.held client }
     {
@@ -114,11 +128,11 @@ pub fn run_read(
 {
     match form {
         RunForm::Call(name, call) => call_line_read(alloc, line, name, call, running),
-        RunForm::Begin(name) => begin_read(line, name, running),
-        RunForm::End(name) => end_read(line, name, running),
+        RunForm::Begin(name, manager) => begin_read(line, name, manager, running),
+        RunForm::End(name, manager) => end_read(line, name, manager, running),
         RunForm::Notify(version) => notify_read(line, version, running),
+        RunForm::Update(most) => Err(update_read(most)),
         RunForm::Ack => Ok(running.with_line(line, Run::Ack)?),
-        RunForm::Unbuilt => Err(Refusal::Fault(FaultKind::Unbuilt)),
     }
 }
 
@@ -133,6 +147,18 @@ fn notify_read(line: u32, version: u64, running: Running) -> Result<Running, Ref
     Ok(running.with_line(line, Run::Notify { ver })?)
 }
 
+/// An `update` line, which is not built yet.
+#[tactic(auto, unfolding(crate::specs::Grammar::update_read))]
+fn update_read(most: u64) -> Refusal
+    ensures { Fails result (Grammar.update_read most) }
+{
+    if most > 4_294_967_295 {
+        Refusal::Fault(FaultKind::Limit)
+    } else {
+        Refusal::Fault(FaultKind::Unbuilt)
+    }
+}
+
 #[tactic(auto, unfolding(crate::specs::Grammar::client_call_read))]
 fn call_line_read(
     alloc: Global,
@@ -143,64 +169,87 @@ fn call_line_read(
 ) -> Result<Running, Refusal>
     ensures { Gives result (Grammar.client_call_read line name.entry form.entry running) }
 {
-    if name.is_long() {
+    if name.is_long() || is_past_call(&form) {
         return Err(Refusal::Fault(FaultKind::Limit));
     }
-    let is_built = is_built_call(&form);
-    let call = call_read(alloc, form)?;
     let Some(client) = running.number(&name) else {
         return Err(Refusal::Fault(FaultKind::Unknown));
     };
-    if !is_built {
-        return Err(Refusal::Fault(FaultKind::Unbuilt));
+    if !is_receiver_known(running.session.clients(), &form) {
+        return Err(Refusal::Fault(FaultKind::Unknown));
     }
+    if !is_context_known(&running.session, &form) {
+        return Err(Refusal::Fault(FaultKind::Undeclared));
+    }
+    let Some(call) = built_call(alloc, form)? else {
+        return Err(Refusal::Fault(FaultKind::Unbuilt));
+    };
     Ok(running.with_line(line, Run::File { client, call })?)
 }
 
-fn is_built_call(form: &CallForm<'_>) -> bool
-    ensures { result ≡ Grammar.is_built_call form.now }
+/// Whether the client that a call names besides its caller is declared.
+#[tactic(auto, unfolding(crate::specs::Grammar::is_receiver_known))]
+fn is_receiver_known(clients: &[ClientLine], form: &CallForm<'_>) -> bool
+    ensures { result ≡ Grammar.is_receiver_known clients.now form.now }
 {
     match form {
-        CallForm::Open(_slot, path, _mode) => path.is_one(),
-        CallForm::Read(_slot, _offset, _most) => true,
+        CallForm::OfFile(FileForm::Give(_slot, client, _target)) => has_client(clients, client),
+        _ => true,
     }
 }
 
-#[tactic(auto, unfolding(crate::specs::Grammar::call_read))]
-fn call_read(alloc: Global, form: CallForm<'_>) -> Result<FileCall, Refusal>
-    ensures value { Gives result (Grammar.call_read form.entry) }
-    ensures formed { IfOk result IsCall }
+/// Whether the context that a call names is declared.
+#[tactic(auto, unfolding(crate::specs::Grammar::is_context_known))]
+fn is_context_known(session: &Session, form: &CallForm<'_>) -> bool
+    ensures { result ≡ Grammar.is_context_known session.now.policy.contexts form.now }
 {
     match form {
-        CallForm::Open(slot, path, mode) => {
-            if slot > 63 || path.is_long() {
-                return Err(Refusal::Fault(FaultKind::Limit));
+        CallForm::OfFile(FileForm::Relabel(_path, context)) => session.sid_of(context).is_some(),
+        CallForm::OfProcess(ProcessForm::Exec(_pid, context)) => {
+            session.sid_of(context).is_some()
+        }
+        _ => true,
+    }
+}
+
+/// The call of the file manager, where it is of a built form.
+#[tactic(auto, unfolding(crate::specs::Grammar::built_call, crate::specs::Ranges::is_past_call, crate::specs::Ranges::is_past_file))]
+fn built_call(alloc: Global, form: CallForm<'_>) -> Result<Option<FileCall>, Memory>
+    requires { Ranges.is_past_call form ≡ false }
+    ensures value { IfOk result (λ call. call ≡ Grammar.built_call form.entry) }
+    ensures formed { IfOk result (λ call. IfSome call IsCall) }
+{
+    match form {
+        CallForm::OfFile(FileForm::Open(slot, path, mode)) => {
+            if !path.is_one() {
+                return Ok(None);
             }
             let path = path.kept(alloc)?;
-            Ok(FileCall::OpenFile {
+            Ok(Some(FileCall::OpenFile {
                 slot: slot as u8,
                 path,
                 mode,
-            })
+            }))
         }
-        CallForm::Read(slot, offset, most) => {
-            if slot > 63 || offset > 65_536 || most == 0 || most > 1_024 {
-                return Err(Refusal::Fault(FaultKind::Limit));
-            }
-            Ok(FileCall::ReadFile {
-                slot: slot as u8,
-                offset: offset as u32,
-                length: most as u32,
-            })
-        }
+        CallForm::OfFile(FileForm::Read(slot, offset, most)) => Ok(Some(FileCall::ReadFile {
+            slot: slot as u8,
+            offset: offset as u32,
+            length: most as u32,
+        })),
+        _ => Ok(None),
     }
 }
 
-#[tactic(auto, unfolding(crate::specs::Grammar::begin_read))]
-fn begin_read(line: u32, name: Word<'_>, running: Running) -> Result<Running, Refusal>
-    ensures { Gives result (Grammar.begin_read line name.entry running) }
+#[tactic(auto, unfolding(crate::specs::Grammar::begin_read, crate::specs::Grammar::pass_on))]
+fn begin_read(
+    line: u32,
+    name: Word<'_>,
+    manager: Manager,
+    running: Running,
+) -> Result<Running, Refusal>
+    ensures { Gives result (Grammar.begin_read line name.entry manager running) }
 {
-    if running.holds(&name) {
+    if running.holds_of(manager, &name) {
         return Err(Refusal::Fault(FaultKind::Order));
     }
     if name.is_long() {
@@ -209,18 +258,29 @@ fn begin_read(line: u32, name: Word<'_>, running: Running) -> Result<Running, Re
     let Some(client) = running.number(&name) else {
         return Err(Refusal::Fault(FaultKind::Unknown));
     };
-    Ok(running.with_pass(line, Run::Begin { client }, client, true)?)
+    match manager {
+        Manager::File => Ok(running.with_pass(line, Run::Begin { client }, client, true)?),
+        _ => Err(Refusal::Fault(FaultKind::Unbuilt)),
+    }
 }
 
-#[tactic(auto, unfolding(crate::specs::Grammar::end_read))]
-fn end_read(line: u32, name: Word<'_>, running: Running) -> Result<Running, Refusal>
-    ensures { Gives result (Grammar.end_read line name.entry running) }
+#[tactic(auto, unfolding(crate::specs::Grammar::end_read, crate::specs::Grammar::pass_on))]
+fn end_read(
+    line: u32,
+    name: Word<'_>,
+    manager: Manager,
+    running: Running,
+) -> Result<Running, Refusal>
+    ensures { Gives result (Grammar.end_read line name.entry manager running) }
 {
-    if !running.holds(&name) {
+    if !running.holds_of(manager, &name) {
         return Err(Refusal::Fault(FaultKind::Order));
     }
     let Some(client) = running.number(&name) else {
         return Err(Refusal::Fault(FaultKind::Unknown));
     };
-    Ok(running.with_pass(line, Run::End { client }, client, false)?)
+    match manager {
+        Manager::File => Ok(running.with_pass(line, Run::End { client }, client, false)?),
+        _ => Err(Refusal::Fault(FaultKind::Unbuilt)),
+    }
 }

@@ -4,20 +4,20 @@ ghost use Rattle.std.specs.Prelude.{◌≡◌, ◌<◌, IfOk};
 ghost use Rattle.std.specs.Bool.{OnFalse};
 ghost use Rattle.text_lines.specs.Refusals.{Gives};
 ghost use Rattle.session_text.specs.Grammar;
+ghost use Rattle.session_text.specs.Sessions.{IsSidOf};
 
 use crate::look_up::{has_client, has_node};
 use crate::parts::Parts;
+use crate::ranges::{is_long_data, is_past_place};
 use crate::session::{ClientLine, Session};
 use file_manager::{FilePath, Node};
-use flask_sid::{ContextOf, Memory, Name, Piece, Word};
+use flask_sid::{ContextOf, Memory, Name, Piece, Sid, Word};
 use std::alloc::Global;
 use text_lines::{FaultKind, Refusal};
 
 const NODE_LIMIT: usize = 4_095;
 
 const CLIENT_LIMIT: usize = 62;
-
-const DATA_LIMIT: usize = 1_024;
 
 /// A `file` line.
 #[tactic(auto, unfolding(crate::specs::Grammar::file_read))]
@@ -30,32 +30,59 @@ pub fn file_read(
 ) -> Result<Session, Refusal>
     ensures { Gives result (Grammar.file_read path.entry context.entry bytes.entry session) }
 {
-    if is_past_file(&path, &context, &bytes, session.parts().nodes.len()) {
+    if is_past_node(&path, &context, session.parts().nodes.len()) || is_long_data(&bytes) {
         return Err(Refusal::Fault(FaultKind::Limit));
     }
-    if !path.is_below_root() {
-        return Err(Refusal::Fault(FaultKind::Unknown));
-    }
-    let Some(sid) = session.sid_of(&context) else {
-        return Err(Refusal::Fault(FaultKind::Undeclared));
-    };
     let path = path.kept(alloc)?;
-    if is_taken(session.parts().nodes.as_slice(), &path) {
-        return Err(Refusal::Fault(FaultKind::Twice));
-    }
+    let sid = node_sid(&path, &context, &session)?;
     Ok(session.with_file(path, sid, data_bytes(alloc, &bytes)?)?)
 }
 
-#[tactic(auto, unfolding(crate::specs::Grammar::is_past_file))]
-fn is_past_file(
-    path: &Parts<'_>,
-    context: &ContextOf<Word<'_>>,
-    bytes: &Option<Word<'_>>,
-    nodes: usize,
-) -> bool
-    ensures { result ≡ Grammar.is_past_file path.now context.now bytes.now nodes }
+/// A `dir` line, which is not built yet.
+#[tactic(auto, unfolding(crate::specs::Grammar::directory_read))]
+pub fn directory_read(
+    alloc: Global,
+    path: Parts<'_>,
+    context: ContextOf<Word<'_>>,
+    session: Session,
+) -> Result<Session, Refusal>
+    ensures { Gives result (Grammar.directory_read path.entry context.entry session) }
 {
-    path.is_long() || context.is_long() || is_long_data(bytes) || nodes >= NODE_LIMIT
+    if is_past_node(&path, &context, session.parts().nodes.len()) {
+        return Err(Refusal::Fault(FaultKind::Limit));
+    }
+    let path = path.kept(alloc)?;
+    let _sid = node_sid(&path, &context, &session)?;
+    Err(Refusal::Fault(FaultKind::Unbuilt))
+}
+
+/// The identifier of a node that is to stand at a path.
+#[tactic(auto, unfolding(crate::specs::Grammar::node_sid))]
+fn node_sid(
+    path: &FilePath,
+    context: &ContextOf<Word<'_>>,
+    session: &Session,
+) -> Result<Sid, Refusal>
+    ensures value { Gives result (Grammar.node_sid path.now context.now session.now) }
+    ensures known { IfOk result (IsSidOf session.now.policy.contexts) }
+{
+    if path.len() > 1 {
+        return Err(Refusal::Fault(FaultKind::Unknown));
+    }
+    let Some(sid) = session.sid_of(context) else {
+        return Err(Refusal::Fault(FaultKind::Undeclared));
+    };
+    if is_taken(session.parts().nodes.as_slice(), path) {
+        return Err(Refusal::Fault(FaultKind::Twice));
+    }
+    Ok(sid)
+}
+
+#[tactic(auto, unfolding(crate::specs::Grammar::is_past_node))]
+fn is_past_node(path: &Parts<'_>, context: &ContextOf<Word<'_>>, nodes: usize) -> bool
+    ensures { result ≡ Grammar.is_past_node path.now context.now nodes }
+{
+    path.is_long() || context.is_long() || nodes >= NODE_LIMIT
 }
 
 #[tactic(auto, unfolding(crate::specs::Grammar::is_taken))]
@@ -80,15 +107,6 @@ fn is_named(clients: &[ClientLine], name: &Word<'_>) -> bool
     name.is(b"admin") || has_client(clients, name)
 }
 
-fn is_long_data(bytes: &Option<Word<'_>>) -> bool
-    ensures { result ≡ Grammar.is_long_data bytes.now }
-{
-    match bytes {
-        None => false,
-        Some(word) => word.as_bytes().len() > DATA_LIMIT,
-    }
-}
-
 fn data_bytes(alloc: Global, bytes: &Option<Word<'_>>) -> Result<Piece, Memory>
     ensures { IfOk result (λ piece. piece ≡ Grammar.data_bytes bytes.now) }
 {
@@ -111,12 +129,58 @@ pub fn client_read(
     if is_past_client(&name, &context, session.parts().clients.len()) {
         return Err(Refusal::Fault(FaultKind::Limit));
     }
-    let Some(sid) = session.sid_of(&context) else {
-        return Err(Refusal::Fault(FaultKind::Undeclared));
-    };
-    if is_named(session.parts().clients.as_slice(), &name) {
-        return Err(Refusal::Fault(FaultKind::Twice));
-    }
+    let sid = client_sid(&name, &context, &session)?;
     let name = Name::of(alloc, &name)?;
     Ok(session.with_client(name, sid)?)
+}
+
+/// The identifier of a client that is to have a name.
+#[tactic(auto, unfolding(crate::specs::Grammar::client_sid))]
+fn client_sid(
+    name: &Word<'_>,
+    context: &ContextOf<Word<'_>>,
+    session: &Session,
+) -> Result<Sid, Refusal>
+    ensures value { Gives result (Grammar.client_sid name.now context.now session.now) }
+    ensures known { IfOk result (IsSidOf session.now.policy.contexts) }
+{
+    let Some(sid) = session.sid_of(context) else {
+        return Err(Refusal::Fault(FaultKind::Undeclared));
+    };
+    if is_named(session.parts().clients.as_slice(), name) {
+        return Err(Refusal::Fault(FaultKind::Twice));
+    }
+    Ok(sid)
+}
+
+/// An `initial` line, which is not built yet.
+#[tactic(auto, unfolding(crate::specs::Grammar::initial_read))]
+pub fn initial_read(context: ContextOf<Word<'_>>, session: Session) -> Result<Session, Refusal>
+    ensures { Gives result (Grammar.initial_read context.entry session) }
+{
+    if context.is_long() {
+        return Err(Refusal::Fault(FaultKind::Limit));
+    }
+    match session.sid_of(&context) {
+        None => Err(Refusal::Fault(FaultKind::Undeclared)),
+        Some(_sid) => Err(Refusal::Fault(FaultKind::Unbuilt)),
+    }
+}
+
+/// A `port` line, which is not built yet.
+#[tactic(auto, unfolding(crate::specs::Grammar::port_read))]
+pub fn port_read(
+    port: u64,
+    context: ContextOf<Word<'_>>,
+    session: Session,
+) -> Result<Session, Refusal>
+    ensures { Gives result (Grammar.port_read port context.entry session) }
+{
+    if is_past_place(port) || context.is_long() {
+        return Err(Refusal::Fault(FaultKind::Limit));
+    }
+    match session.sid_of(&context) {
+        None => Err(Refusal::Fault(FaultKind::Undeclared)),
+        Some(_sid) => Err(Refusal::Fault(FaultKind::Unbuilt)),
+    }
 }

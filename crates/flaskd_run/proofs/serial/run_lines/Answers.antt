@@ -1,12 +1,10 @@
-use Rattle.std.proofs.Common.{◌≡◌, ◌+◌, length, arith, ap, ◌∙◌, sym}
+use Rattle.std.proofs.Common.{◌≡◌, ◌+◌, length, arith, ap, ◌∙◌}
 use Rattle.std.specs.Vec.Iter.{into_iter_items}
 use Rattle.session_text.specs.Sessions.{IsRun}
 use Rattle.session_text.specs.declared.session.RunLine.{RunLine}
 use Rattle.flask_io.specs.Streams.{Adds}
-use Rattle.flaskd_run.specs.Serial.{lines_text}
 use Rattle.flaskd_run.specs.Texts.{summary_text}
 use Rattle.flaskd_run.specs.Writing.{AddsFront}
-use Rattle.flaskd_run.specs.Walking.{decisions_of}
 use Rattle.flaskd_run.proofs.SerialLemmas.{line_written, line_failed, all_behind, no_items, calls_after, changes_after, on_ok, on_err, on_err_always, all_written, last_failed}
 use Rattle.flaskd_run.proofs.serial.run_lines.Goals as goal
 
@@ -17,15 +15,15 @@ lines-preserved g c =
     let ran = c.in_ok-run_line.ensures in
     let behind : length (into_iter_items c.lines.line-iterator) ≡ length (into_iter_items c.next.new.self) + 1 = ap length step.0 ∙ omega arith in
     record {
-      written = line_written c.args.desk.now.policy c.lines.desk.policy c.args.clients.now c.lines.desk.day c.run_line.new.desk.day c.in-Some.line (into_iter_items c.next.new.self) (into_iter_items c.lines.line-iterator) _ _ _ _ c.run_line.new.out
-          kept.written step.0 kept.policy ran.text ran.day c.in_ok-put_line.ensures.ok;
+      written = line_written (g.D.Decider.decides c.args.desk.now.decider) (g.D.Decider.decides c.lines.desk.decider) c.args.clients.now c.lines.desk.day c.run_line.new.desk.day c.in-Some.line (into_iter_items c.next.new.self) (into_iter_items c.lines.line-iterator) _ _ _ _ c.run_line.new.out
+          kept.written step.0 (ap g.D.Decider.decides kept.decider) ran.text ran.day c.in_ok-put_line.ensures.ok;
       later = omega (arith, kept.later, c.put_line.ensures.cause.later);
-      policy = ran.policy ∙ kept.policy;
+      decider = ran.decider ∙ kept.decider;
       opening = ap (λ o. length o.clients) ran.opening ∙ kept.opening;
       formed = all_behind (λ (line : RunLine). IsRun (length c.args.clients.now) line.run) _ _ c.in-Some.line step.0 kept.formed;
       left = omega (arith, step.1, kept.left, behind);
-      calls = omega (arith, kept.calls, behind, rw (← ran.day) at (calls_after (decisions_of c.lines.desk.policy) c.lines.desk.day c.in-Some.line.run));
-      changes = omega (arith, kept.changes, behind, rw (← ran.day) at (changes_after (decisions_of c.lines.desk.policy) c.lines.desk.day c.in-Some.line.run));
+      calls = omega (arith, kept.calls, behind, rw (← ran.day) at (calls_after (g.D.Decider.decides c.lines.desk.decider) c.lines.desk.day c.in-Some.line.run));
+      changes = omega (arith, kept.changes, behind, rw (← ran.day) at (changes_after (g.D.Decider.decides c.lines.desk.decider) c.lines.desk.day c.in-Some.line.run));
     }
 
 pub returns-in_err-put_line-clause-err : goal.returns-in_err-put_line-clause-err
@@ -34,8 +32,8 @@ returns-in_err-put_line-clause-err g c =
     let step = c.in-Some.ensures.steps in
     let ran = c.in_ok-run_line.ensures in
     on_err_always _ _
-    (line_failed c.args.desk.now.policy c.lines.desk.policy c.args.clients.now c.lines.desk.day c.in-Some.line (into_iter_items c.next.new.self) (into_iter_items c.lines.line-iterator) _ _ _ _ c.run_line.new.out
-    kept.written step.0 kept.policy ran.text c.in_err-put_line.ensures.err)
+    (line_failed (g.D.Decider.decides c.args.desk.now.decider) (g.D.Decider.decides c.lines.desk.decider) c.args.clients.now c.lines.desk.day c.in-Some.line (into_iter_items c.next.new.self) (into_iter_items c.lines.line-iterator) _ _ _ _ c.run_line.new.out
+    kept.written step.0 (ap g.D.Decider.decides kept.decider) ran.text c.in_err-put_line.ensures.err)
 
 pub returns-clause-ok : goal.returns-clause-ok
 returns-clause-ok g c =

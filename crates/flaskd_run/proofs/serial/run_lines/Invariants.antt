@@ -2,7 +2,6 @@ use Rattle.std.proofs.Common.{◌≡◌, ◌≤◌, ◌<◌, ◌+◌, ◌^◌, l
 use Rattle.std.specs.Vec.Iter.{into_iter_items, into_iter_len}
 use Rattle.session_text.specs.Sessions.{IsRun}
 use Rattle.flaskd_run.specs.Serial.{lines_text}
-use Rattle.flaskd_run.specs.Walking.{decisions_of}
 use Rattle.flaskd_run.specs.Writing.{IsOffered}
 use Rattle.flaskd_run.proofs.serial.run_lines.Given as goal
 
@@ -10,10 +9,10 @@ abbrev pub invariant-lines : goal.invariant-lines
 invariant-lines g l =
     record {
       written : IsOffered (g.K.Sink.written l.fn.sink) (g.K.Sink.written l.sink)
-          (lines_text (decisions_of l.fn.desk.policy) l.clients l.fn.desk.day l.fn.lines.items)
-          (lines_text (decisions_of l.fn.desk.policy) l.clients l.desk.day (into_iter_items l.line-iterator));
+          (lines_text (g.D.Decider.decides l.fn.desk.decider) l.clients l.fn.desk.day l.fn.lines.items)
+          (lines_text (g.D.Decider.decides l.fn.desk.decider) l.clients l.desk.day (into_iter_items l.line-iterator));
       later : g.K.Sink.faults l.fn.sink ≤ g.K.Sink.faults l.sink;
-      policy : l.desk.policy ≡ l.fn.desk.policy;
+      decider : l.desk.decider ≡ l.fn.desk.decider;
       opening : length l.desk.day.files.opening.clients ≡ length l.clients;
       formed : All (λ line. IsRun (length l.clients) line.run) (into_iter_items l.line-iterator);
       left : into_iter_len l.line-iterator ≡ length (into_iter_items l.line-iterator);

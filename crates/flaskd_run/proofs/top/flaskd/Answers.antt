@@ -18,4 +18,4 @@ returns-clause-ran g c =
     let bytes = c.read_all.new.bytes.items in
     let small : is_large bytes ≡ false = grind (arith, nat_tests) in
     served_ran c.serve.result c.args.words.now _ _ _ _ bytes (sym c.is_command.ensures ∙ c.if-not-is_command.false) small c.in-Ok.ensures.takes (omega (arith, c.in-Ok.ensures.bounded))
-    (c.in-Ok.ensures.whole (omega arith)) (rw c.as_slice.ensures.value at c.serve.ensures.answers) (rw c.as_slice.ensures.value at c.serve.ensures.puts)
+    (c.in-Ok.ensures.whole (omega arith)) (rw c.as_slice.ensures.value at c.serve.ensures.served)

@@ -4,7 +4,7 @@ use Rattle.flaskd_run.proofs.NamedLemmas.{named_set, newest_named}
 use Rattle.flaskd_run.proofs.desk.Desk.begin.Goals as goal
 
 pub invariant_of-self : goal.invariant_of-self
-invariant_of-self c =
+invariant_of-self g c =
     let kept = c.self.invariant in (
       kept.0,
       kept.1,

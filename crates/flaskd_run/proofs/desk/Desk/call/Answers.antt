@@ -1,14 +1,11 @@
-use Rattle.std.proofs.Common.{length}
-use Rattle.flaskd_run.specs.Walking.{decisions_of}
 use Rattle.flaskd_run.proofs.NamedLemmas.{acting_named}
 use Rattle.flaskd_run.proofs.PhaseLemmas.{version_below}
 use Rattle.flaskd_run.proofs.desk.Desk.call.Goals as goal
 
 pub new-asker-requires : goal.new-asker-requires
-unfolding decisions_of
-new-asker-requires c =
-    rw (c.version_at-version.ensures, c.phase.ensures) (version_below (length c.self.inside.decider.now.policy.now.versions) c.self.inside.keeper.phase c.acting-number.result c.self.invariant.5)
+new-asker-requires g c =
+    rw (c.version_at-version.ensures, c.phase.ensures) (version_below (g.D.Decider.decides c.self.inside.decider.now).versions c.self.inside.keeper.phase c.acting-number.result c.self.invariant.5)
 
 pub call-requires-clause-named : goal.call-requires-clause-named
-call-requires-clause-named c =
+call-requires-clause-named g c =
     rw (rw (← c.self.view_is) at c.acting-number.ensures) (acting_named c.self.inside.keeper.phase c.self.inside.passes c.args.client c.self.invariant.2)

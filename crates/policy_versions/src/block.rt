@@ -1,0 +1,103 @@
+ghost use Rattle.std.specs.Prelude.{◌≡◌, ℕ, ◌<◌, ◌&&◌, ◌==◌, ◌∷◌, ◌++◌, [], List, length};
+ghost use Rattle.policy_text.specs.declared.policy.PolicyParts.{PolicyParts};
+ghost use Rattle.policy_text.specs.declared.policy.RuleLine.{RuleLine};
+ghost use Rattle.policy_text.specs.Kept.{IsRule};
+ghost use Rattle.policy_versions.specs.Sets.{has_place};
+ghost use Rattle.policy_versions.specs.Kinds.{AreKindsOf};
+ghost use Rattle.policy_versions.specs.Changes.{cell_of, AreChanged, AreMatchedChanged, AreRules, AllTell};
+
+use crate::change::{Change, Content, change_of};
+use crate::kind_set::KindSet;
+use crate::kinds::Kinds;
+use crate::row::Row;
+use access_vectors::Class;
+use flask_sid::Memory;
+use policy_text::{RuleLine, Who};
+use std::alloc::Global;
+
+/// The rows of one version and class, by the places of the sources.
+#[derive(Drop)]
+pub(crate) struct Block {
+    pub(crate) rows: Vec<Row>,
+    ghost whole: { length rows.items ≡ 128 },
+}
+
+impl Block {
+    /// A block for drawing.
+    pub(crate) fn new(alloc: Global) -> Result<Block, Memory> {
+        let rows = vec![in alloc; Row::empty(); 128]?;
+        Ok(Block { rows })
+    }
+
+    /// Draws the rule lines of a class, from the first to the last.
+    pub(crate) fn draw(&mut self, kinds: &Kinds, content: Content, rules: &[RuleLine], class: Class)
+        ensures { (policy : PolicyParts) → AreKindsOf policy kinds.now → AreRules policy rules.now
+            → AllTell content policy rules.now class self.new.rows.items }
+    {
+        self.clear();
+        'rules: for rule in rules {
+            self.draw_line(kinds, content, rule, class);
+        }
+    }
+
+    fn clear(&mut self)
+        ensures { (s t : ℕ) → s < 128 → cell_of self.new.rows.items s t ≡ 0 }
+    {
+        for row in self.rows.iter_mut() {
+            *row = Row::empty();
+        }
+    }
+
+    fn draw_line(&mut self, kinds: &Kinds, content: Content, rule: &RuleLine, class: Class)
+        ensures { (policy : PolicyParts) (above : List RuleLine) → AreKindsOf policy kinds.now
+            → IsRule policy.kinds policy.attributes rule.now
+            → AllTell content policy above class self.old.rows.items
+            → AllTell content policy (above ++ rule.now ∷ []) class self.new.rows.items }
+    {
+        if rule.class.code() != class.code() {
+            return;
+        }
+        if let Some(change) = change_of(kinds, content, &rule.verdict) {
+            self.change(kinds, &rule.source, &rule.target, change);
+        }
+    }
+
+    fn change(&mut self, kinds: &Kinds, source: &Who, target: &Who, change: Change)
+        ensures { (policy : PolicyParts) → AreKindsOf policy kinds.now
+            → AreMatchedChanged policy source.now target.now change self.old.rows.items self.new.rows.items }
+    {
+        let sources = kinds.sources(source);
+        match target {
+            Who::Itself => self.change_own(sources, change),
+            _ => self.change_rows(sources, kinds.sources(target), change),
+        }
+    }
+
+    fn change_rows(&mut self, sources: &KindSet, targets: &KindSet, change: Change)
+        ensures { AreChanged (λ s t. has_place sources.now.words s && has_place targets.now.words t) change
+            self.old.rows.items self.new.rows.items }
+    {
+        let mut s = usize::from(sources.links[0]);
+        'sources: while s < 128 {
+            if sources.words[s] != 0 {
+                let row = &mut self.rows[s];
+                row.change(targets, change);
+            }
+            s = usize::from(sources.links[s + 1]);
+        }
+    }
+
+    fn change_own(&mut self, sources: &KindSet, change: Change)
+        ensures { AreChanged (λ s t. has_place sources.now.words s && (s == t)) change
+            self.old.rows.items self.new.rows.items }
+    {
+        let mut s = usize::from(sources.links[0]);
+        'sources: while s < 128 {
+            if sources.words[s] != 0 {
+                let row = &mut self.rows[s];
+                row.change_one(s, change);
+            }
+            s = usize::from(sources.links[s + 1]);
+        }
+    }
+}

@@ -1,0 +1,66 @@
+ghost use Rattle.std.specs.Prelude.{◌≡◌, ℕ, ◌+◌, ◌*◌, ◌<◌, ◌≤◌, ◌&&◌, ◌||◌, ◌==◌, false, length, IfOk};
+ghost use Rattle.policy_versions.specs.Numbers.{is_marked};
+ghost use Rattle.policy_versions.specs.Steps.{StayMarked};
+
+use crate::kind::Kind;
+use flask_sid::Memory;
+use std::alloc::Global;
+use std::marker::Model;
+
+/// A table of marks: rows of 128 cells, one for each type.
+#[derive(Drop)]
+pub(crate) struct Marks {
+    cells: Vec<bool>,
+}
+
+impl Model for Marks {
+    ghost use Rattle.std.specs.Prelude.{List, Bool};
+
+    ghost Value = { List Bool };
+
+    ghost view = { λ marks. marks.cells.items };
+}
+
+impl Marks {
+    /// A table of so many rows in which nothing is marked.
+    #[tactic(auto, unfolding(crate::specs::Numbers::is_marked))]
+    pub(crate) fn new(alloc: Global, rows: u16) -> Result<Marks, Memory>
+        ensures size { IfOk result (λ marks. length marks ≡ rows * 128) }
+        ensures none { IfOk result (λ marks. (row kind : ℕ) → is_marked marks row kind ≡ false) }
+    {
+        Ok(Marks {
+            cells: vec![in alloc; false; usize::from(rows) * 128]?,
+        })
+    }
+
+    /// Whether the cell of a row and a type is marked.
+    #[tactic(auto, unfolding(crate::specs::Numbers::is_marked))]
+    pub(crate) fn has(&self, row: u16, kind: Kind) -> bool
+        ensures value { result ≡ is_marked self.now row kind }
+        ensures within { kind < 128 }
+    {
+        let at = cell_of(row, kind);
+        match self.cells.as_slice().get(at) {
+            Some(cell) => *cell,
+            None => false,
+        }
+    }
+
+    /// Marks the cell of a row and a type.
+    #[tactic(auto, unfolding(crate::specs::Numbers::is_marked))]
+    pub(crate) fn mark(&mut self, row: u16, kind: Kind)
+        requires { row * 128 + 128 ≤ length self.old }
+        ensures size { length self.new ≡ length self.old }
+        ensures stays { StayMarked self.old self.new }
+        ensures marks { (r k : ℕ) → k < 128 → is_marked self.new r k ≡ (is_marked self.old r k || (row == r && kind == k)) }
+    {
+        self.cells[cell_of(row, kind)] = true;
+    }
+}
+
+fn cell_of(row: u16, kind: Kind) -> usize
+    ensures value { result ≡ row * 128 + kind }
+    ensures within { kind < 128 }
+{
+    usize::from(row) * 128 + usize::from(kind.place())
+}

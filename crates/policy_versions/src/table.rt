@@ -1,0 +1,143 @@
+ghost use Rattle.std.specs.Prelude.{◌≡◌, ℕ, ◌+◌, ◌<◌, ◌≤◌, length, slice_index, IfOk, OnOk, IsTrue, MatchOption};
+ghost use Rattle.policy_text.specs.declared.policy.PolicyParts.{PolicyParts};
+ghost use Rattle.policy_versions.specs.Kinds.{AreKindsOf};
+ghost use Rattle.policy_versions.specs.Changes.{AreRules};
+ghost use Rattle.policy_versions.specs.Cells.{cell_at, class_place, StandsAt, KeepsRows, AllTellFrom, TableTells};
+
+use crate::block::Block;
+use crate::change::Content;
+use crate::kind::Kind;
+use crate::kinds::Kinds;
+use crate::row::Row;
+use access_vectors::Class;
+use flask_sid::Memory;
+use policy_text::{PolicyText, RuleLine};
+use std::alloc::Global;
+
+/// The rows of every version and class: 128 rows for each, one for each source. A class that has the rows of the
+/// version before shares them.
+#[derive(Drop)]
+pub(crate) struct Table {
+    /// For each version the place of each class's first row.
+    firsts: Vec<[u32; 5]>,
+    rows: Vec<Row>,
+}
+
+impl Table {
+    /// The rows of all versions of a policy.
+    pub(crate) fn compile(
+        alloc: Global,
+        policy: &PolicyText,
+        kinds: &Kinds,
+        content: Content,
+    ) -> Result<Table, Memory>
+        requires { AreKindsOf policy.now kinds.now }
+        ensures { IfOk result (λ table. TableTells content policy.now table) }
+    {
+        let mut block = Block::new(alloc)?;
+        let mut rows = vec![in alloc; Row::empty(); 128]?;
+        let mut firsts = Vec::new(alloc);
+        let mut before = [0; 5];
+        'versions: for version in policy.parts().versions.as_slice() {
+            let rules = version.rules.as_slice();
+            before = draw_version(&mut rows, &mut block, kinds, content, rules, before)?;
+            firsts.push(before)?;
+        }
+        Ok(Table { firsts, rows })
+    }
+
+    /// The cell of a version, a source, a target and a class: 0 for a version that is not there.
+    pub(crate) fn cell(&self, version: u8, s: Kind, t: Kind, class: Class) -> u16
+        ensures { result ≡ cell_at self.now version s t class }
+    {
+        match self.row(version, s, class) {
+            None => 0,
+            Some(row) => row.cells[usize::from(t.place())],
+        }
+    }
+
+    /// The row of a version, a source and a class: `None` only for a version that is not there.
+    pub(crate) fn row(&self, version: u8, s: Kind, class: Class) -> Option<&Row>
+        ensures { MatchOption result ((t : ℕ) → cell_at self.now version s t class ≡ 0)
+            (λ row. (t : ℕ) → cell_at self.now version s t class ≡ slice_index row.now.cells t) }
+    {
+        let firsts = self.firsts.as_slice().get(usize::from(version))?;
+        let first = firsts[place_of(class)] as usize;
+        self.rows.as_slice().get(first + usize::from(s.place()))
+    }
+}
+
+fn place_of(class: Class) -> usize
+    ensures value { result ≡ class_place class }
+    ensures within { result < 5 }
+{
+    match class {
+        Class::File => 0,
+        Class::Dir => 1,
+        Class::Process => 2,
+        Class::Port => 3,
+        Class::Security => 4,
+    }
+}
+
+// Draws the rule lines of a version, and answers the place of each class's first row. `before` has those of the version
+// before, whose rows may be shared.
+fn draw_version(
+    rows: &mut Vec<Row>,
+    block: &mut Block,
+    kinds: &Kinds,
+    content: Content,
+    rules: &[RuleLine],
+    before: [u32; 5],
+) -> Result<[u32; 5], Memory>
+    requires { length rows.old.items ≤ 65536 }
+    ensures few { OnOk result (length rows.new.items ≤ length rows.old.items + 640) }
+    ensures keeps { OnOk result (KeepsRows rows.old.items rows.new.items) }
+    ensures tell { IfOk result (λ firsts. (policy : PolicyParts) → AreKindsOf policy kinds.now → AreRules policy rules.now
+        → AllTellFrom content policy rules.now rows.new.items firsts) }
+{
+    block.draw(kinds, content, rules, Class::File);
+    let file = place(rows, block, before[0])?;
+    block.draw(kinds, content, rules, Class::Dir);
+    let dir = place(rows, block, before[1])?;
+    block.draw(kinds, content, rules, Class::Process);
+    let process = place(rows, block, before[2])?;
+    block.draw(kinds, content, rules, Class::Port);
+    let port = place(rows, block, before[3])?;
+    block.draw(kinds, content, rules, Class::Security);
+    let security = place(rows, block, before[4])?;
+    Ok([file, dir, process, port, security])
+}
+
+// The place from which a block's rows stand: at the front or at `before` where they stand there already, and else
+// behind all others.
+fn place(rows: &mut Vec<Row>, block: &Block, before: u32) -> Result<u32, Memory>
+    requires { length rows.old.items ≤ 131072 }
+    ensures few { OnOk result (length rows.new.items ≤ length rows.old.items + 128) }
+    ensures keeps { OnOk result (KeepsRows rows.old.items rows.new.items) }
+    ensures stands { IfOk result (λ first. StandsAt rows.new.items block.now.rows.items first) }
+{
+    if stands_at(rows, block, 0) {
+        return Ok(0);
+    }
+    if stands_at(rows, block, before) {
+        return Ok(before);
+    }
+    let first = rows.len() as u32;
+    rows.extend_from_slice(block.rows.as_slice())?;
+    Ok(first)
+}
+
+fn stands_at(rows: &[Row], block: &Block, first: u32) -> bool
+    ensures { IsTrue result → StandsAt rows.now block.now.rows.items first }
+{
+    for s in 0..128usize {
+        match rows.get(first as usize + s) {
+            None => return false,
+            Some(row) => if *row != block.rows[s] {
+                return false;
+            }
+        }
+    }
+    true
+}

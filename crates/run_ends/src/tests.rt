@@ -1,0 +1,124 @@
+use flask_io::{Got, MemorySink, MemorySource, Put, Sink, Source};
+use flask_sid::{Piece, Word};
+use flaskd_run::{NoStops, Status, flaskd};
+use std::alloc::Global;
+use std::sync::Wait;
+use std::test::Fail;
+use std::thread::Threads;
+
+const SMALLEST: &[u8] = b"policy 1
+context u:r:t
+version
+allow t t file read
+allow t t dir search
+session
+file /a u:r:t hello
+client alice u:r:t
+run
+alice file open 0 /a r
+alice file read 0 0 16
+";
+
+const ANSWER: &[u8] = b"10 alice file 0 done
+11 alice file 0 data 5 hello
+calls 2 denied 0 changes 0
+";
+
+/// A source that gives one byte at a time, and tells none.
+#[derive(Drop)]
+struct Drops<'a> {
+    left: &'a [u8],
+}
+
+impl Source for Drops<'_> {
+    ghost use Rattle.std.specs.Prelude.{None};
+
+    ghost left = { λ drops. None };
+
+    ghost faults = { λ drops. 0 };
+
+    fn read(&mut self, buf: &mut [u8]) -> Got {
+        let Some((first, rest)) = self.left.split_first() else {
+            return Got::End;
+        };
+        buf[0] = *first;
+        self.left = rest;
+        Got::Bytes(1)
+    }
+}
+
+/// A sink that takes one byte at a time, and tells none.
+#[derive(Drop)]
+struct Sips {
+    taken: Piece,
+    faults: u64,
+}
+
+impl Sink for Sips {
+    ghost use Rattle.std.specs.Prelude.{None};
+
+    ghost written = { λ sips. None };
+
+    ghost faults = { λ sips. sips.faults };
+
+    fn write(&mut self, piece: &[u8]) -> Put {
+        if self.taken.push(piece[0]).is_err() {
+            self.faults = self.faults.saturating_add(1);
+            return Put::Failed;
+        }
+        Put::Took(1)
+    }
+}
+
+/// Runs the smallest session between ends of which the reads and the writes of these numbers, from 1, fail.
+fn run<'a, R: Threads + Wait>(
+    rt: &R,
+    alloc: Global,
+    reads: &[u64],
+    writes: &'a [u64],
+) -> (Status, MemorySink<'a>) {
+    let words = [Word::new(b"serial")];
+    let mut source = MemorySource::new(SMALLEST, reads);
+    let mut sink = MemorySink::new(alloc, writes);
+    let status = flaskd(rt, alloc, &words, &mut source, &mut sink, &NoStops);
+    (status, sink)
+}
+
+#[test]
+fn ends_by_the_first_cause(rt: HostRuntime) -> Result<(), Fail> {
+    let nothing = &ANSWER[..0];
+    let first_line = &ANSWER[..21];
+    for (reads, writes, status, written) in [
+        (&[][..], &[][..], Status::Ok, ANSWER),
+        (&[1][..], &[], Status::ReadFault, nothing),
+        (&[2][..], &[], Status::ReadFault, nothing),
+        (&[], &[1][..], Status::WriteFault, nothing),
+        (&[], &[2][..], Status::WriteFault, first_line),
+    ] {
+        let (ended, sink) = run(&rt, rt.alloc(), reads, writes);
+        assert_eq!(rt; ended, status);
+        assert_eq!(rt; sink.bytes(), written);
+    }
+    Ok(())
+}
+
+#[test]
+fn slow_ends_change_nothing(rt: HostRuntime) -> Result<(), Fail> {
+    let words = [Word::new(b"serial")];
+    let mut source = Drops { left: SMALLEST };
+    let mut sink = Sips {
+        taken: Piece::new(rt.alloc()),
+        faults: 0,
+    };
+    let ended = flaskd(
+        &rt,
+        rt.alloc(),
+        words.as_slice(),
+        &mut source,
+        &mut sink,
+        &NoStops,
+    );
+    assert_eq!(rt; ended, Status::Ok);
+    assert_eq!(rt; sink.taken.as_bytes(), ANSWER);
+    Ok(())
+}
