@@ -1,15 +1,20 @@
 -- The plain file manager: finite maps, no cache, and a slot that gives nothing by itself.
-use Rattle.std.specs.Prelude.{ℕ, ◌+◌, ◌*◌, ◌<◌, ◌≤◌, ◌≡◌, Bool, true, false, IsTrue, not, ◌==◌, List, [], ◌∷◌, ◌++◌, length, take, drop, slice_get, slice_set, slice_index, replicate, All, Option, Some, None, if◌then◌else◌}
+use Rattle.std.specs.Prelude.{ℕ, ◌/◌, ◌<◌, IsTrue, ◌==◌, List, [], ◌∷◌, ◌++◌, length, take, drop, slice_index, unwrap_or, All, Option, Some, None, if◌then◌else◌}
 use Rattle.std.specs.List.{find}
+use Rattle.std.specs.Ordering.{nat_cmp}
+use Rattle.std.specs.FinMap as maps
+use Rattle.std.specs.FinMap.{FinMap}
 use Rattle.access_vectors.specs.Table.{Permission}
 use Rattle.access_vectors.specs.Perms.{file_read, file_write, file_append, dir_search}
 use Rattle.access_vectors.specs.Vectors.{has}
 use Rattle.access_vectors.specs.Decisions.{Decisions}
 use Rattle.access_vectors.specs.Asking.{question}
+use Rattle.access_vectors.specs.Stale.{Follows, Pair, slot_place}
 use Rattle.access_vectors.specs.declared.asked.Asked.{Asked}
 use Rattle.access_vectors.specs.declared.class.Class.TheVariants.{Dir}
 use Rattle.manager_history.specs.Answers.{Answer, Denial}
 use Rattle.file_manager.specs.Paths.{same_path}
+use Rattle.file_manager.specs.Formed.{IsCall}
 use Rattle.file_manager.specs.declared.opening.Node.{Node}
 use Rattle.file_manager.specs.declared.opening.FileOpening.{FileOpening}
 use Rattle.file_manager.specs.declared.call.FileCall.{FileCall}
@@ -22,42 +27,22 @@ pub record Held : Type 0 where
   pub path : List (List ℕ)
   pub mode : ℕ
 
--- the manager's state: what it was opened with, and the slots by client and number, 64 for each client
+-- the manager's state: what it was opened with, and the used slots by their places
 pub record FileState : Type 0 where
   pub opening : FileOpening
-  pub slots : List (Option Held)
+  pub slots : FinMap nat_cmp Held
 
 -- the reply to a call, the state that it leaves, and the questions that it asked, up to the first no
 abbrev pub FileAnswer : Type 0
 FileAnswer = Answer FileReply FileState
 
--- where a client's slot stands
-abbrev pub place : ℕ → ℕ → ℕ
-place client slot = 64 * client + slot
-
--- what a place holds, if anything
-abbrev pub at_place : List (Option Held) → ℕ → Option Held
-at_place slots at = found (slice_get slots at)
-  where
-    found : Option (Option Held) → Option Held
-    found None = None
-    found (Some held) = held
-
 -- the node of a path
 abbrev pub node_of : List Node → List (List ℕ) → Option Node
 node_of nodes path = find (λ node. same_path node.path path) nodes
 
--- the bytes of a path's file, and none where it has no file
-abbrev pub bytes_of : List Node → List (List ℕ) → List ℕ
-bytes_of nodes path = bytes_in (node_of nodes path)
-  where
-    bytes_kept : Option (List ℕ) → List ℕ
-    bytes_kept None = []
-    bytes_kept (Some bytes) = bytes
-
-    bytes_in : Option Node → List ℕ
-    bytes_in None = []
-    bytes_in (Some node) = bytes_kept node.bytes
+-- the bytes of a node: none of a directory
+abbrev pub bytes_of : Node → List ℕ
+bytes_of node = unwrap_or node.bytes []
 
 -- a caller's identifier
 abbrev pub sid_of : FileState → ℕ → ℕ
@@ -108,7 +93,7 @@ abbrev pub filled : FileState → ℕ → List (List ℕ) → ℕ → FileAnswer
 filled state at path mode =
     record {
       reply = Done;
-      state = record { opening = state.opening; slots = slice_set state.slots at (Some (record { path = path; mode = mode })) };
+      state = record { opening = state.opening; slots = maps.insert state.slots at (record { path = path; mode = mode }) };
       asked = [];
     }
 
@@ -142,30 +127,69 @@ open_into d state s number version at path mode None =
 
 -- open: SlotUsed; the root is searched; NotFound; IsDir; each permission of the mode
 abbrev pub open_row : Decisions → FileState → ℕ → ℕ → ℕ → ℕ → List (List ℕ) → ℕ → FileAnswer
-open_row d state s number version at path mode = open_into d state s number version at path mode (at_place state.slots at)
+open_row d state s number version at path mode = open_into d state s number version at path mode (maps.get state.slots at)
 
--- read: BadSlot; BadMode where the mode lacks read; then the bytes from the offset on, at most so many of them
-abbrev pub read_row : FileState → Option Held → ℕ → ℕ → FileAnswer
-read_row state None offset most = saying state BadSlot
-read_row state (Some held) offset most =
-    if has held.mode file_read.index then saying state (Bytes (take most (drop offset (bytes_of state.opening.nodes held.path))))
+-- reading what stands at a slot's path: the permission read is asked, on the label that the file has at present, and then
+-- come the bytes from the offset on, at most so many of them; a slot on nothing is as good as free
+abbrev pub read_node : Decisions → FileState → ℕ → ℕ → ℕ → Option Node → ℕ → ℕ → FileAnswer
+read_node d state s number version None offset most = saying state BadSlot
+read_node d state s number version (Some node) offset most =
+    asking state number (question d version s node.sid file_read) (saying state (Bytes (take most (drop offset (bytes_of node)))))
+
+-- reading through what a place holds
+abbrev pub read_from : Decisions → FileState → ℕ → ℕ → ℕ → Option Held → ℕ → ℕ → FileAnswer
+read_from d state s number version None offset most = saying state BadSlot
+read_from d state s number version (Some held) offset most =
+    if has held.mode file_read.index then read_node d state s number version (node_of state.opening.nodes held.path) offset most
     else saying state BadMode
+
+-- read: BadSlot; BadMode where the mode lacks read; the permission read on the file; the bytes
+abbrev pub read_row : Decisions → FileState → ℕ → ℕ → ℕ → ℕ → ℕ → ℕ → FileAnswer
+read_row d state s number version at offset most = read_from d state s number version (maps.get state.slots at) offset most
 
 -- the plain manager's answer to a caller's call under a policy number and its version
 abbrev pub answer : Decisions → FileState → ℕ → FileCall → ℕ → ℕ → FileAnswer
 answer d state caller (OpenFile slot path mode) number version =
-    open_row d state (sid_of state caller) number version (place caller slot) path mode
+    open_row d state (sid_of state caller) number version (slot_place caller slot) path mode
 answer d state caller (ReadFile slot offset most) number version =
-    read_row state (at_place state.slots (place caller slot)) offset most
+    read_row d state (sid_of state caller) number version (slot_place caller slot) offset most
+
+-- the slot that a call uses: a read is a use, and an open is none
+abbrev pub use_of : ℕ → FileCall → Option ℕ
+use_of caller (OpenFile slot path mode) = None
+use_of caller (ReadFile slot offset most) = Some (slot_place caller slot)
+
+-- what the slots follow after an open: where it is done, its slot follows the call's number
+abbrev pub follows_filled : ℕ → ℕ → FileReply → Follows → Follows
+follows_filled at number Done follows = maps.insert follows at number
+follows_filled at number reply follows = follows
+
+-- what the slots follow after a call
+abbrev pub followed : FileState → ℕ → FileCall → ℕ → FileReply → Follows → Follows
+followed state caller (OpenFile slot path mode) number reply follows = follows_filled (slot_place caller slot) number reply follows
+followed state caller (ReadFile slot offset most) number reply follows = follows
+
+-- the pair of a source and what stands at a path, if anything
+abbrev pub pair_on : ℕ → Option Node → Option Pair
+pair_on s None = None
+pair_on s (Some node) = Some (record { source = s; target = node.sid })
+
+-- the pair of a client and what a slot of it holds, if anything
+abbrev pub pair_held : FileState → ℕ → Option Held → Option Pair
+pair_held state client None = None
+pair_held state client (Some held) = pair_on (sid_of state client) (node_of state.opening.nodes held.path)
+
+-- the pair of a place: of the client's identifier, and of the label that the file in the slot has at present
+abbrev pub pair_of : FileState → ℕ → Option Pair
+pair_of state at = pair_held state (at / 256) (maps.get state.slots at)
 
 -- the state that an opening gives: every slot is free
 abbrev pub opened_with : FileOpening → FileState
-opened_with opening = record { opening = opening; slots = replicate (64 * length opening.clients) None }
+opened_with opening = record { opening = opening; slots = maps.empty }
 
--- a call as a session may give it: its caller is a client, and its slot is below 64
+-- a call as a session may give it: its caller is a client, and its words and numbers are in their ranges
 abbrev pub IsFormed : FileState → ℕ → FileCall → Type 0
-IsFormed state caller (OpenFile slot path mode) = (caller < length state.opening.clients) × (slot < 64)
-IsFormed state caller (ReadFile slot offset most) = (caller < length state.opening.clients) × (slot < 64)
+IsFormed state caller call = (caller < length state.opening.clients) × IsCall call
 
 -- every identifier of an opening is the decider's
 abbrev pub IsOpening : Decisions → FileOpening → Type 0

@@ -1,8 +1,11 @@
 -- What `serial` prints: the lines in the text's order, run on the plain manager.
-use Rattle.std.specs.Prelude.{ℕ, ◌+◌, Bool, true, false, List, [], ◌∷◌, ◌++◌, replicate, slice_get, slice_set, map, Option, Some, None, unwrap_or, Result, Err, ◌≡◌, codes}
+use Rattle.std.specs.Prelude.{ℕ, ◌+◌, Bool, true, false, List, [], ◌∷◌, ◌++◌, length, take, drop, replicate, slice_get, slice_set, map, Option, Some, None, unwrap_or, Result, Err, ◌≡◌, codes}
+use Rattle.std.specs.FinMap as maps
 use Rattle.flask_sid.specs.declared.context.ContextOf.{ContextOf}
 use Rattle.access_vectors.specs.Decisions.{Decisions}
 use Rattle.access_vectors.specs.Phases.{number_of, version_at, noticed, acknowledged}
+use Rattle.access_vectors.specs.Stale.{Follows, stale_slots, now_following, all_following}
+use Rattle.access_vectors.specs.declared.class.Class.TheVariants as class
 use Rattle.access_vectors.specs.declared.phase.Phase.{Phase}
 use Rattle.access_vectors.specs.declared.phase.Phase.TheVariants.{Settled}
 use Rattle.manager_history.specs.Passing.{pass_of, older_count}
@@ -11,7 +14,7 @@ use Rattle.manager_history.specs.declared.answers.Ack.{Ack}
 use Rattle.manager_history.specs.declared.answers.NotifyFault.{NotifyFault}
 use Rattle.manager_history.specs.declared.answers.NotifyFault.TheVariants as faults
 use Rattle.policy_versions.specs.Judging.{decisions_of}
-use Rattle.file_manager.specs.Plain.{FileState, FileAnswer, answer, opened_with, denial_of}
+use Rattle.file_manager.specs.Plain.{FileState, FileAnswer, answer, followed, pair_of, opened_with, denial_of}
 use Rattle.file_manager.specs.declared.call.FileCall.{FileCall}
 use Rattle.file_manager.specs.declared.opening.FileOpening.{FileOpening}
 use Rattle.session_text.specs.declared.session.ClientLine.{ClientLine}
@@ -19,11 +22,13 @@ use Rattle.session_text.specs.declared.session.Run.{Run}
 use Rattle.session_text.specs.declared.session.Run.TheVariants as run
 use Rattle.session_text.specs.declared.session.RunLine.{RunLine}
 use Rattle.session_text.specs.declared.session.SessionParts.{SessionParts}
-use Rattle.flaskd_run.specs.Texts.{reply_text, client_text, admin_text, notice_text, ack_text, summary_text}
+use Rattle.flaskd_run.specs.Texts.{reply_text, client_text, admin_text, notice_text, updated_text, ack_text, summary_text}
 
--- where a run stands: the plain manager's state, the phase, the held passes by client, and the counts of the summary
+-- where a run stands: the plain manager's state, the policy number that each used slot follows, the phase, the held passes
+-- by client, and the counts of the summary
 pub record Day : Type 0 where
   pub files : FileState
+  pub follows : Follows
   pub phase : Phase
   pub held : List (Option ℕ)
   pub calls : ℕ
@@ -46,6 +51,7 @@ opening_of session = record {
 abbrev pub morning_of : FileOpening → Day
 morning_of opening = record {
   files = opened_with opening;
+  follows = maps.empty;
   phase = Settled 0 0;
   held = replicate 64 None;
   calls = 0;
@@ -78,10 +84,11 @@ counted_denial (Some denial) denied = denied + 1
 abbrev pub answer_on : Decisions → Day → ℕ → FileCall → FileAnswer
 answer_on d day client call = answer d day.files client call (acting_number day client) (version_at day.phase (acting_number day client))
 
--- after a client's call
-abbrev pub day_called : Day → FileAnswer → Day
-day_called day answer = record {
+-- after a client's call, and its answer
+abbrev pub day_called : Day → ℕ → FileCall → FileAnswer → Day
+day_called day client call answer = record {
   files = answer.state;
+  follows = followed day.files client call (acting_number day client) answer.reply day.follows;
   phase = day.phase;
   held = day.held;
   calls = day.calls + 1;
@@ -112,22 +119,35 @@ phase_chosen (Some fault) phase version = phase
 abbrev pub refusal_of : Decisions → Day → ℕ → Option NotifyFault
 refusal_of d day version = notice_fault day.phase d.versions version most_number
 
--- how an acknowledgement goes: the passes below the pending number count, and no slot is ever stale
-abbrev pub ack_on : Day → Ack
-ack_on day = ack_answer day.phase 0 (older_count (number_of day.phase) day.held) 0
+-- the slots that a pending change leaves stale, least client and then least slot first
+abbrev pub stale_on : Decisions → Day → List ℕ
+stale_on d day = stale_slots d class.File day.phase (pair_of day.files) day.follows
 
--- after an acknowledgement
+-- after an update of so many slots: the first of the stale ones follow the pending number
+abbrev pub day_updated : Decisions → Day → ℕ → Day
+day_updated d day most = record day { follows = now_following (take most (stale_on d day)) (number_of day.phase) day.follows }
+
+-- how an acknowledgement goes: the passes below the pending number count, and then the stale slots
+abbrev pub ack_on : Decisions → Day → Ack
+ack_on d day = ack_answer day.phase 0 (older_count (number_of day.phase) day.held) (length (stale_on d day))
+
+-- after an acknowledgement: where it is done, every used slot follows the number
 abbrev pub day_acknowledged : Day → Bool → Day
-day_acknowledged day true = record day { phase = acknowledged day.phase; changes = day.changes + 1 }
+day_acknowledged day true = record day {
+  phase = acknowledged day.phase;
+  follows = all_following (number_of day.phase) day.follows;
+  changes = day.changes + 1;
+}
 day_acknowledged day false = day
 
 -- after a line
 abbrev pub day_after : Decisions → Day → Run → Day
-day_after d day (run.File client call) = day_called day (answer_on d day client call)
+day_after d day (run.File client call) = day_called day client call (answer_on d day client call)
 day_after d day (run.Begin client) = with_held day (passes_begun day.held client (number_of day.phase) (pass_of day.held client))
 day_after d day (run.End client) = with_held day (passes_ended day.held client (pass_of day.held client))
 day_after d day (run.Notify version) = record day { phase = phase_chosen (refusal_of d day version) day.phase version }
-day_after d day run.Ack = day_acknowledged day (is_done (ack_on day))
+day_after d day (run.Update most) = day_updated d day most
+day_after d day run.Ack = day_acknowledged day (is_done (ack_on d day))
 
 -- unless memory was wanting, this is the day after
 abbrev pub IsDayUnlessMemory : Result ℕ NotifyFault → Day → Day → Type 0
@@ -140,7 +160,8 @@ line_text d clients day n (run.File client call) = client_text n (name_of client
 line_text d clients day n (run.Begin client) = client_text n (name_of clients client) (acting_number day client) (codes "begun")
 line_text d clients day n (run.End client) = client_text n (name_of clients client) (acting_number day client) (codes "ended")
 line_text d clients day n (run.Notify version) = admin_text n (notice_text (refusal_of d day version) (number_of day.phase + 1))
-line_text d clients day n run.Ack = admin_text n (ack_text (ack_on day))
+line_text d clients day n (run.Update most) = admin_text n (updated_text (length (drop most (stale_on d day))))
+line_text d clients day n run.Ack = admin_text n (ack_text (ack_on d day))
 
 -- what lines print from there on, and the summary
 abbrev pub lines_text : Decisions → List ClientLine → Day → List RunLine → List ℕ

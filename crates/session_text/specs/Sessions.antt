@@ -1,20 +1,14 @@
 -- What the grammar asks of a session.
 use Rattle.std.specs.Prelude.{ℕ, ◌<◌, ◌≤◌, List, length, All}
-use Rattle.file_manager.specs.declared.call.FileCall.{FileCall}
-use Rattle.file_manager.specs.declared.call.FileCall.TheVariants.{OpenFile, ReadFile}
+use Rattle.file_manager.specs.Formed.{IsCall}
 use Rattle.policy_text.specs.declared.policy.ContextLine.{ContextLine}
 use Rattle.session_text.specs.declared.session.Run.{Run}
-use Rattle.session_text.specs.declared.session.Run.TheVariants.{File, Begin, End, Notify, Ack}
+use Rattle.session_text.specs.declared.session.Run.TheVariants.{File, Begin, End, Notify, Update, Ack}
 use Rattle.session_text.specs.declared.session.SessionParts.{SessionParts}
 
 -- the identifier of one of these declared contexts
 abbrev pub IsSidOf : List ContextLine → ℕ → Type 0
 IsSidOf contexts sid = (0 < sid) × (sid ≤ length contexts)
-
--- a call with its numbers in their ranges
-abbrev pub IsCall : FileCall → Type 0
-IsCall (OpenFile slot path mode) = slot < 64
-IsCall (ReadFile slot offset most) = slot < 64
 
 -- what a line may ask where there are so many clients
 abbrev pub IsRun : ℕ → Run → Type 0
@@ -22,6 +16,7 @@ IsRun clients (File client call) = (client < clients) × IsCall call
 IsRun clients (Begin client) = client < clients
 IsRun clients (End client) = client < clients
 IsRun clients (Notify ver) = ver < 256
+IsRun clients (Update most) = most < 4294967296
 IsRun clients Ack = Unit {0}
 
 -- nodes and clients have declared contexts, there are at most 62 clients, and each line is of one of them
