@@ -1,0 +1,5 @@
+pub mod IndexLemmas
+pub mod MarkLemmas
+pub mod FitLemmas
+pub mod SlotsLemmas
+pub mod Opening

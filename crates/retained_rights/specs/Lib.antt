@@ -1,0 +1,4 @@
+pub mod Rules
+pub mod Rights
+pub mod Stored
+pub mod Good
