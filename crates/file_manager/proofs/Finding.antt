@@ -1,5 +1,5 @@
 -- The node that a search by position finds.
-use Rattle.std.proofs.Common.{◌≡◌, ◌<◌, ◌+◌, ℕ, Bool, true, false, cond, List, ◌∷◌, [], length, slice_get, refl, sym, ◌∙◌, ap, arith, Option, Some, None, IfSome, Decides, suc, zero, subst}
+use Rattle.std.proofs.Common.{◌≡◌, ◌<◌, ◌+◌, ℕ, Bool, true, false, cond, List, ◌∷◌, [], length, slice_get, refl, sym, ◌∙◌, arith, Some, None, IfSome, suc, zero, subst}
 use Rattle.std.specs.List.{position, position_from, find}
 use Rattle.std.proofs.lemmas.Iterator.Adapters.{position_from-zero}
 use Rattle.std.proofs.lemmas.Slice.Eq.{slice_eq-Decides, bytes_eq-Decides}
@@ -52,4 +52,4 @@ path_there (node ∷ nodes) path (suc j) passes within = path_there nodes path j
 pub node_found : (nodes : List Node) (path : List (List ℕ)) (i : ℕ) → position (λ node. same_path node.path path) nodes ≡ Some i → IsNodeOf nodes path i
 node_found nodes path i found =
     let first = first_at (λ node. same_path node.path path) nodes i found in
-    (first.within, path_there nodes path i first.passes first.within, first.first)
+    record { within = first.within; path_is = path_there nodes path i first.passes first.within; found = first.first }

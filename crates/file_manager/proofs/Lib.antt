@@ -1,2 +1,9 @@
+pub mod ExampleLemmas
+pub mod Bits
+pub mod MapLemmas
 pub mod Finding
-pub mod Slots
+pub mod Following
+pub mod Revising
+pub mod SafeLemmas
+pub mod StateLemmas
+pub mod UseLemmas

@@ -1,20 +1,22 @@
 -- The plain manager's questions have the answers that the decisions give, and they are those of its reply.
-use Rattle.std.specs.Prelude.{◌≡◌, ℕ, Bool, true, false, List, [], ◌∷◌, ◌++◌, take, drop, All, Option, Some, None, refl, if◌then◌else◌}
-use Rattle.std.proofs.Common.{sym, ap, ◌∙◌, append_assoc, append-nil}
+use Rattle.std.specs.Prelude.{◌≡◌, ℕ, Bool, true, false, List, [], ◌∷◌, ◌++◌, All, Option, Some, None, refl, if◌then◌else◌}
+use Rattle.std.proofs.Common.{sym, ap, ◌∙◌, append_assoc}
+use Rattle.std.specs.FinMap as maps
 use Rattle.std.proofs.lemmas.List.Elements.{All-cons, All-nil, All-append}
 use Rattle.access_vectors.specs.Table.{Permission}
 use Rattle.access_vectors.specs.Vectors.{has}
 use Rattle.access_vectors.specs.Decisions.{Decisions}
 use Rattle.access_vectors.specs.Asking.{question}
+use Rattle.access_vectors.specs.Stale.{slot_place}
 use Rattle.access_vectors.specs.Perms.{file_read, dir_search}
 use Rattle.access_vectors.specs.declared.asked.Asked.{Asked}
-use Rattle.manager_history.specs.Answers.{Answer, Denial, IsHonest, IsTold, AreQuestionsOf, EndsWithNo}
+use Rattle.manager_history.specs.Answers.{Denial, IsHonest, IsTold, AreQuestionsOf, EndsWithNo}
 use Rattle.file_manager.specs.declared.opening.Node.{Node}
 use Rattle.file_manager.specs.declared.call.FileCall.{FileCall}
 use Rattle.file_manager.specs.declared.call.FileCall.TheVariants.{OpenFile, ReadFile}
 use Rattle.file_manager.specs.declared.call.FileReply.{FileReply}
-use Rattle.file_manager.specs.declared.call.FileReply.TheVariants.{Done, Bytes, Denied, NotFound, IsDir, BadSlot, SlotUsed, BadMode}
-use Rattle.file_manager.specs.Plain.{FileState, FileAnswer, Held, Asking, then_asking, asking_mode, mode_perms, denied_or, after_asking, asking, saying, filled, opened_file, opened, open_into, open_row, read_row, answer, place, at_place, entry_key, node_under, bytes_of, sid_of, denial_of}
+use Rattle.file_manager.specs.declared.call.FileReply.TheVariants.{Denied, NotFound, IsDir, BadSlot, SlotUsed, BadMode}
+use Rattle.file_manager.specs.Plain.{FileState, FileAnswer, Held, Asking, then_asking, asking_mode, mode_perms, denied_or, asking, saying, filled, opened_file, opened, open_into, read_node, read_from, answer, entry_key, node_of, node_under, sid_of, denial_of}
 
 -- each of these questions was answered yes
 abbrev AllYes : List Asked → Type 0
@@ -122,17 +124,23 @@ honest_open d state s number version at path mode (Some held) = honest_saying d 
 honest_open d state s number version at path mode None =
     honest_asking d state number version s state.opening.root dir_search _ (honest_opened d state s number version at path mode (node_under (entry_key d version s state.opening.root) state.opening.nodes path))
 
-honest_read : (d : Decisions) (state : FileState) (number version : ℕ) (held : Option Held) (offset most : ℕ) → IsHonest denial_of d number version (read_row state held offset most)
-honest_read d state number version None offset most = honest_saying d state number version BadSlot refl
-honest_read d state number version (Some held) offset most =
+-- what stands at a slot's path is read
+honest_node : (d : Decisions) (state : FileState) (s number version : ℕ) (node : Option Node) (offset most : ℕ) → IsHonest denial_of d number version (read_node d state s number version node offset most)
+honest_node d state s number version None offset most = honest_saying d state number version BadSlot refl
+honest_node d state s number version (Some node) offset most =
+    honest_asking d state number version s node.sid file_read _ (honest_saying d state number version _ refl)
+
+honest_read : (d : Decisions) (state : FileState) (s number version : ℕ) (held : Option Held) (offset most : ℕ) → IsHonest denial_of d number version (read_from d state s number version held offset most)
+honest_read d state s number version None offset most = honest_saying d state number version BadSlot refl
+honest_read d state s number version (Some held) offset most =
     elim (has held.mode file_read.index) as (λ (b : Bool). IsHonest denial_of d number version
-    (if b then saying state (Bytes (take most (drop offset (bytes_of state.opening.nodes held.path)))) else saying state BadMode)) [
-      | true ↦ honest_saying d state number version _ refl
+    (if b then read_node d state s number version (node_of state.opening.nodes held.path) offset most else saying state BadMode)) [
+      | true ↦ honest_node d state s number version (node_of state.opening.nodes held.path) offset most
       | false ↦ honest_saying d state number version BadMode refl
     ]
 
 pub honest_answer : (d : Decisions) (state : FileState) (caller : ℕ) (call : FileCall) (number version : ℕ) → IsHonest denial_of d number version (answer d state caller call number version)
 honest_answer d state caller (OpenFile slot path mode) number version =
-    honest_open d state (sid_of state caller) number version (place caller slot) path mode (at_place state.slots (place caller slot))
+    honest_open d state (sid_of state caller) number version (slot_place caller slot) path mode (maps.get state.slots (slot_place caller slot))
 honest_answer d state caller (ReadFile slot offset most) number version =
-    honest_read d state number version (at_place state.slots (place caller slot)) offset most
+    honest_read d state (sid_of state caller) number version (maps.get state.slots (slot_place caller slot)) offset most

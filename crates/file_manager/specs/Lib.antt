@@ -1,5 +1,9 @@
 pub mod Paths
+pub mod Formed
 pub mod Plain
-pub mod Cores
-pub mod Serving
 pub mod Honest
+pub mod Cores
+pub mod Uses
+pub mod Serving
+pub mod Laws
+pub mod Example

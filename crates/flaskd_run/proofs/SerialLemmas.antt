@@ -65,8 +65,9 @@ calls_after d day (run.File client call) = omega arith
 calls_after d day (run.Begin client) = omega arith
 calls_after d day (run.End client) = omega arith
 calls_after d day (run.Notify version) = omega arith
+calls_after d day (run.Update most) = omega arith
 calls_after d day run.Ack =
-    elim (is_done (ack_on day)) as (λ (b : Bool). (day_acknowledged day b).calls ≤ day.calls + 1) [ true ↦ omega arith | false ↦ omega arith ]
+    elim (is_done (ack_on d day)) as (λ (b : Bool). (day_acknowledged day b).calls ≤ day.calls + 1) [ true ↦ omega arith | false ↦ omega arith ]
 
 -- a line completes at most one change
 pub changes_after : (d : Decisions) (day : Day) (asks : Run) → (day_after d day asks).changes ≤ day.changes + 1
@@ -74,8 +75,9 @@ changes_after d day (run.File client call) = omega arith
 changes_after d day (run.Begin client) = omega arith
 changes_after d day (run.End client) = omega arith
 changes_after d day (run.Notify version) = omega arith
+changes_after d day (run.Update most) = omega arith
 changes_after d day run.Ack =
-    elim (is_done (ack_on day)) as (λ (b : Bool). (day_acknowledged day b).changes ≤ day.changes + 1) [ true ↦ omega arith | false ↦ omega arith ]
+    elim (is_done (ack_on d day)) as (λ (b : Bool). (day_acknowledged day b).changes ≤ day.changes + 1) [ true ↦ omega arith | false ↦ omega arith ]
 
 -- the identifiers of a session are those of its policy's contexts, of which the declared ones come first
 sid_known : (declared : List ContextLine) (count sid : ℕ) → length declared ≤ count → IsSidOf declared sid → IsTrue (nat_lt 0 sid && nat_le sid count)

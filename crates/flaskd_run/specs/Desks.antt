@@ -1,7 +1,16 @@
 -- What the desk of a run keeps.
-use Rattle.std.specs.Prelude.{◌≡◌, ℕ, List, [], ◌∷◌, Option, Some, None, Result, Ok, Err}
+use Rattle.std.specs.Prelude.{◌≡◌, ℕ, List, [], ◌∷◌, Option, Some, None, Result, Ok, Err, refl}
+use Rattle.std.specs.Coded.{Coded, code_by, coded×, coded_list, coded_option, coded_ℕ}
+use Rattle.std.specs.Ordering.{nat_cmp}
+use Rattle.std.specs.FinMap as maps
+use Rattle.std.specs.FinMap.{FinMap}
 use Rattle.access_vectors.specs.Phases.{MayName}
+use Rattle.access_vectors.specs.Stale.{Follows}
+use Rattle.access_vectors.specs.contracts.phase.Phase as phase_type
 use Rattle.access_vectors.specs.declared.phase.Phase.{Phase}
+use Rattle.file_manager.specs.Plain.{Held, FileState}
+use Rattle.file_manager.specs.contracts.opening.FileOpening as opening_type
+use Rattle.file_manager.specs.declared.opening.FileOpening.{FileOpening}
 use Rattle.manager_history.specs.declared.answers.NotifyFault.{NotifyFault}
 use Rattle.manager_history.specs.declared.answers.NotifyFault.TheVariants as faults
 use Rattle.flaskd_run.specs.Serial.{Day}
@@ -10,6 +19,33 @@ use Rattle.flaskd_run.specs.Serial.{Day}
 pub record Standing (Decider : Type 0) : Type 0 where
   pub day : Day
   pub decider : Decider
+
+-- how a proof tells two of them apart: by the fields
+abbrev pub held_code : Coded Held
+held_code = code_by (List (List ℕ) × ℕ) (coded× (coded_list (coded_list coded_ℕ)) coded_ℕ) (λ held. (held.path, held.mode)) (λ p. record { path = p.0; mode = p.1 }) (λ _. refl)
+
+abbrev pub state_code : Coded FileState
+state_code =
+    code_by (FileOpening × FinMap nat_cmp Held) (coded× opening_type.the_row.coded (maps.code coded_ℕ held_code)) (λ state. (state.opening, state.slots)) (λ p. record { opening = p.0; slots = p.1 }) (λ _. refl)
+
+abbrev pub day_code : Coded Day
+day_code =
+    code_by (FileState × (Follows × (Phase × (List (Option ℕ) × (ℕ × (ℕ × ℕ)))))) (coded× state_code (coded× (maps.code coded_ℕ coded_ℕ) (coded× phase_type.the_row.coded (coded× (coded_list (coded_option coded_ℕ)) (coded× coded_ℕ (coded× coded_ℕ coded_ℕ))))))
+    (λ day. (day.files, (day.follows, (day.phase, (day.held, (day.calls, (day.denied, day.changes)))))))
+    (λ p. record {
+      files = p.0;
+      follows = p.1.0;
+      phase = p.1.1.0;
+      held = p.1.1.1.0;
+      calls = p.1.1.1.1.0;
+      denied = p.1.1.1.1.1.0;
+      changes = p.1.1.1.1.1.1;
+    })
+    (λ _. refl)
+
+abbrev pub standing_code : {Decider : Type 0} → Coded Decider → Coded (Standing Decider)
+standing_code {Decider = Decider} code =
+    code_by (Day × Decider) (coded× day_code code) (λ standing. (standing.day, standing.decider)) (λ p. record { day = p.0; decider = p.1 }) (λ _. refl)
 
 -- a held pass has a policy number that may be named
 abbrev pub IsNamed : Phase → Option ℕ → Type 0

@@ -57,6 +57,10 @@ abbrev pub said_text : Result ℕ NotifyFault → List ℕ
 said_text (Ok number) = notice_text None number
 said_text (Err fault) = notice_text (Some fault) 0
 
+-- what an update got: how many slots are stale yet; the managers of processes and ports are not built, and have none
+abbrev pub updated_text : ℕ → List ℕ
+updated_text left = codes "updated " ++ decimal left ++ codes " 0 0"
+
 -- what an acknowledgement got; the managers of processes and ports are not built, and keep nothing back
 abbrev pub ack_text : Ack → List ℕ
 ack_text acks.Idle = codes "idle"

@@ -1,16 +1,20 @@
-ghost use Rattle.std.specs.Prelude.{◌≡◌, ◌+◌, ◌<◌, ◌^◌, length, is_some, IfOk, OnOk};
+ghost use Rattle.std.specs.Prelude.{◌≡◌, ◌+◌, ◌<◌, ◌^◌, length, take, drop, is_some, IfOk, OnOk};
 ghost use Rattle.access_vectors.specs.Phases.{number_of};
+ghost use Rattle.access_vectors.specs.Stale.{now_following};
 ghost use Rattle.file_manager.specs.Plain.{IsFormed, IsOpening, denial_of};
+ghost use Rattle.file_manager.specs.Cores.{state_of, follows};
 ghost use Rattle.flaskd_run.specs.Serial;
 ghost use Rattle.flaskd_run.specs.Desks.{IsSaid};
 ghost use Rattle.session_text.specs.declared.session.Run.{Run};
 
-use access_vectors::{Decider, Plainly};
+use crate::file_rights::FileRights;
+use access_vectors::{Decider, Plainly, Steps};
 use file_manager::{FileCall, FileCore, FileOpening, FileReply};
 use flask_sid::Memory;
 use manager_history::{Ack, Keeper, NotifyFault, Passes};
 use std::alloc::Global;
-use std::marker::Model;
+use std::marker::{Brand, Model};
+use std::sync::ledger::{Blank, Ledger};
 
 /// The last policy number that may be made.
 const MOST: u32 = 1_048_575;
@@ -23,7 +27,7 @@ const FILES: u8 = 0;
 #[derive(Drop)]
 pub struct Desk<'d, D: Decider> {
     decider: &'d D,
-    keeper: Keeper<'d, FileCore, D>,
+    keeper: Keeper<'d, FileCore<FileRights>, D>,
     passes: Passes,
     calls: u64,
     denied: u64,
@@ -33,13 +37,17 @@ pub struct Desk<'d, D: Decider> {
 impl<'d, D: Decider> Model for Desk<'d, D> {
     ghost use Rattle.std.specs.Prelude.{◌≡◌, ◌≤◌};
     ghost use Rattle.access_vectors.specs.Phases.{number_of, AreVersions};
-    ghost use Rattle.flaskd_run.specs.Desks.{Standing, AreNamed};
+    ghost use Rattle.file_manager.specs.Cores.{state_of, follows};
+    ghost use Rattle.flaskd_run.specs.Desks.{Standing, standing_code, AreNamed};
 
     ghost Value = { Standing D };
 
+    ghost coded = { standing_code D.code };
+
     ghost view = { λ desk. record {
       day = record {
-        files = desk.keeper.core.files;
+        files = state_of desk.keeper.core;
+        follows = follows desk.keeper.core;
         phase = desk.keeper.phase;
         held = desk.passes;
         calls = desk.calls;
@@ -71,7 +79,7 @@ impl<'d, D: Decider> Desk<'d, D> {
         requires few { length opening.clients < 256 }
         ensures { IfOk result (λ desk. desk ≡ record { day = Serial.morning_of opening; decider = decider.now }) }
     {
-        let core = file_manager::new(alloc, opening)?;
+        let core = file_manager::new(alloc, opening, FileRights)?;
         Ok(Desk {
             decider,
             keeper: Keeper::new(alloc, core, FILES, decider),
@@ -158,14 +166,28 @@ impl<'d, D: Decider> Desk<'d, D> {
         self.keeper.notify(alloc, ver, MOST)
     }
 
+    /// The administrator lets the first `k` stale slots follow the pending number. Answers how many are left.
+    pub fn update(&mut self, k: u32) -> u64
+        ensures left { result ≡ length (drop k (Serial.stale_on (D.decides self.old.decider) self.old.day)) }
+        ensures day { self.new.day ≡ Serial.day_after (D.decides self.old.decider) self.old.day (Run.Update k) }
+        ensures opening { self.new.day.files.opening ≡ self.old.day.files.opening }
+        ensures decider { self.new.decider ≡ self.old.decider }
+    {
+        // The clauses of `entries` say that the keeper's stale slots are those of the definition.
+        let _stale = self.keeper.entries();
+        update_counted::<D, Brand>(&mut self.keeper, k, Blank::new(1))
+    }
+
     /// The administrator asks whether the change is complete.
     pub fn acknowledge(&mut self) -> Ack
         requires { self.old.day.changes + 1 < 2 ^ 64 }
-        ensures answer { result ≡ Serial.ack_on self.old.day }
+        ensures answer { result ≡ Serial.ack_on (D.decides self.old.decider) self.old.day }
         ensures day { self.new.day ≡ Serial.day_after (D.decides self.old.decider) self.old.day Run.Ack }
         ensures opening { self.new.day.files.opening ≡ self.old.day.files.opening }
         ensures decider { self.new.decider ≡ self.old.decider }
     {
+        // As in `update`: what the acknowledgement counts are the stale slots of the definition.
+        let _stale = self.keeper.entries();
         let older = self.passes.older(self.keeper.phase().number());
         let ack = self.keeper.acknowledge(older);
         if let Ack::Done(_receipt) = &ack {
@@ -182,6 +204,29 @@ impl<'d, D: Decider> Desk<'d, D> {
     {
         (self.calls, self.denied, self.changes)
     }
+}
+
+/// Lets the first `k` stale slots of a keeper follow the pending number, and answers how many are left. The ledger of the
+/// blank counts the steps, of which there is at most one for each of these slots.
+fn update_counted<D: Decider, L: Ledger>(
+    keeper: &mut Keeper<'_, FileCore<FileRights>, D>,
+    k: u32,
+    blank: Blank,
+) -> u64
+    requires name { blank.name ≡ L.name }
+    requires parts { blank.parts ≡ L.parts }
+    requires some { 0 < L.parts }
+    ensures left { result ≡ length keeper.new.core.rights.stale }
+    ensures stale { keeper.new.core.rights.stale ≡ drop k keeper.old.core.rights.stale }
+    ensures follows { follows keeper.new.core
+        ≡ now_following (take k keeper.old.core.rights.stale) (number_of keeper.old.phase) (follows keeper.old.core) }
+    ensures state { state_of keeper.new.core ≡ state_of keeper.old.core }
+    ensures phase { keeper.new.phase ≡ keeper.old.phase }
+    ensures decider { keeper.new.decider ≡ keeper.old.decider }
+    ensures manager { keeper.new.manager ≡ keeper.old.manager }
+{
+    let mut steps = Steps::<L>::new(blank);
+    keeper.update(u64::from(k), &mut steps)
 }
 
 fn is_denied(reply: &FileReply) -> bool

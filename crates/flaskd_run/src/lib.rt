@@ -2,6 +2,7 @@
 #![tactic(auto)]
 
 mod desk;
+mod file_rights;
 mod reading;
 mod said;
 mod serial;

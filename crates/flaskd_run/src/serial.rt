@@ -2,9 +2,10 @@
 
 ghost use Rattle.std.specs.Prelude.{◌≡◌, ◌+◌, ◌<◌, ◌≤◌, ◌^◌, ◌++◌, [], length, map, All, Err, IfOk, IfErr, OnOk, OnErr};
 ghost use Rattle.flask_io.specs.Streams.{Adds, HasCause};
+ghost use Rattle.file_manager.specs.Formed.{IsCall};
 ghost use Rattle.file_manager.specs.Plain.{IsOpening};
 ghost use Rattle.file_manager.specs.declared.opening.Node.{Node};
-ghost use Rattle.session_text.specs.Sessions.{IsSession, IsRun, IsCall};
+ghost use Rattle.session_text.specs.Sessions.{IsSession, IsRun};
 ghost use Rattle.session_text.specs.declared.session.Run.{Run};
 ghost use Rattle.session_text.specs.declared.session.ClientLine.{ClientLine};
 ghost use Rattle.flaskd_run.specs.Serial;
@@ -13,7 +14,9 @@ ghost use Rattle.flaskd_run.specs.declared.serial.RunStop.{RunStop};
 ghost use Rattle.flaskd_run.specs.declared.serial.RunStop.TheVariants as run_stop;
 
 use crate::desk::Desk;
-use crate::texts::{put_ack, put_admin, put_client, put_notice, put_reply, put_summary};
+use crate::texts::{
+    put_ack, put_admin, put_client, put_notice, put_reply, put_summary, put_updated,
+};
 use crate::writing::{WriteFault, write_line};
 use access_vectors::Decider;
 use file_manager::{FileCall, FileOpening, Node};
@@ -174,6 +177,26 @@ fn notify_line<D: Decider>(
     out.extend(b"\n")
 }
 
+/// Runs an `update` line, and puts it.
+fn update_line<D: Decider>(
+    desk: &mut Desk<'_, D>,
+    clients: &[ClientLine],
+    line: u32,
+    k: u32,
+    out: &mut Piece,
+) -> Result<(), Memory>
+    requires out { out.old ≡ [] }
+    ensures text { OnOk result (out.new ≡ Serial.line_text (D.decides desk.old.decider) clients.now desk.old.day line (Run.Update k)) }
+    ensures day { OnOk result (desk.new.day ≡ Serial.day_after (D.decides desk.old.decider) desk.old.day (Run.Update k)) }
+    ensures opening { desk.new.day.files.opening ≡ desk.old.day.files.opening }
+    ensures decider { desk.new.decider ≡ desk.old.decider }
+{
+    let left = desk.update(k);
+    put_admin(out, line)?;
+    put_updated(out, left)?;
+    out.extend(b"\n")
+}
+
 /// Runs an `ack` line, and puts it.
 fn ack_line<D: Decider>(
     desk: &mut Desk<'_, D>,
@@ -219,6 +242,7 @@ fn run_line<D: Decider>(
         Run::Begin { client } => begin_line(desk, clients, line, client, out),
         Run::End { client } => end_line(desk, clients, line, client, out),
         Run::Notify { ver } => notify_line(alloc, desk, clients, line, ver, out),
+        Run::Update { k } => update_line(desk, clients, line, k, out),
         Run::Ack => ack_line(desk, clients, line, out),
     }
 }

@@ -87,6 +87,15 @@ pub fn put_notice(out: &mut Piece, said: &Result<u32, NotifyFault>) -> Result<()
     }
 }
 
+/// Puts what an update got.
+pub fn put_updated(out: &mut Piece, left: u64) -> Result<(), Memory>
+    ensures { OnOk result (out.new ≡ out.old ++ Texts.updated_text left) }
+{
+    out.extend(b"updated ")?;
+    put_number(out, left)?;
+    out.extend(b" 0 0")
+}
+
 /// Puts what an acknowledgement got.
 pub fn put_ack(out: &mut Piece, ack: &Ack) -> Result<(), Memory>
     ensures { OnOk result (out.new ≡ out.old ++ Texts.ack_text ack.now) }

@@ -3,7 +3,7 @@ use Rattle.std.proofs.Common.{◌≡◌, ◌<◌, ◌≤◌, ◌+◌, ℕ, List,
 use Rattle.std.proofs.lemmas.List.{length-append}
 use Rattle.std.proofs.lemmas.List.Elements.{All-append}
 use Rattle.session_text.specs.declared.session.Run.{Run}
-use Rattle.session_text.specs.declared.session.Run.TheVariants.{File, Begin, End, Notify, Ack}
+use Rattle.session_text.specs.declared.session.Run.TheVariants.{File, Begin, End, Notify, Update, Ack}
 use Rattle.session_text.specs.declared.session.RunLine.{RunLine}
 use Rattle.session_text.specs.declared.session.SessionParts.{SessionParts}
 use Rattle.session_text.specs.Sessions.{IsSession, IsSidOf, IsRun}
@@ -28,6 +28,7 @@ more_clients n m (File client call) le is = (omega arith, is.1)
 more_clients n m (Begin client) le is = omega arith
 more_clients n m (End client) le is = omega arith
 more_clients n m (Notify ver) le is = is
+more_clients n m (Update most) le is = is
 more_clients n m Ack le is = is
 
 all_more_clients : (n m : ℕ) (lines : List RunLine) → n ≤ m → All (λ line. IsRun n line.run) lines → All (λ line. IsRun m line.run) lines

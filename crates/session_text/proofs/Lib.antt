@@ -1,2 +1,3 @@
+pub mod FormedLemmas
 pub mod Growth
 pub mod ReadingLemmas

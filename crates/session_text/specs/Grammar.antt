@@ -27,7 +27,7 @@ use Rattle.session_text.specs.declared.run_forms.RunForm.TheVariants as form
 use Rattle.file_manager.specs.declared.opening.Node.{Node}
 use Rattle.session_text.specs.declared.session.ClientLine.{ClientLine}
 use Rattle.session_text.specs.declared.session.Run.{Run}
-use Rattle.session_text.specs.declared.session.Run.TheVariants.{File, Begin, End, Notify, Ack}
+use Rattle.session_text.specs.declared.session.Run.TheVariants.{File, Begin, End, Notify, Update, Ack}
 use Rattle.session_text.specs.declared.session.SessionParts.{SessionParts}
 
 -- how many there may be: nodes besides the root, and clients
@@ -191,17 +191,22 @@ built_call (OfFile (file.Open slot path mode)) = if length path == 1 then Some (
 built_call (OfFile (file.Read slot offset most)) = Some (ReadFile slot offset most)
 built_call said = None
 
+-- a call whose arguments are declared, where it is built
+unfoldable pub declared_call_read : ℕ → ℕ → CallForm → Running → Result Running FaultKind
+declared_call_read n client said running = found_or Unbuilt (built_call said) >>= λ call. Ok (running_on running n (File client call))
+
+-- a call of the client of that number
+unfoldable pub numbered_call_read : ℕ → ℕ → CallForm → Running → Result Running FaultKind
+numbered_call_read n client said running =
+    if not (is_receiver_known running.session.clients said) then Err Unknown
+    else if not (is_context_known running.session.policy.contexts said) then Err Undeclared
+    else declared_call_read n client said running
+
 -- a client's call
 unfoldable pub client_call_read : ℕ → List ℕ → CallForm → Running → Result Running FaultKind
 client_call_read n name said running =
     if is_long name || is_past_call said then Err Limit
-    else found_or Unknown (client_number running.session.clients name) >>= λ client. named client
-  where
-    named : ℕ → Result Running FaultKind
-    named client =
-        if not (is_receiver_known running.session.clients said) then Err Unknown
-        else if not (is_context_known running.session.policy.contexts said) then Err Undeclared
-        else found_or Unbuilt (built_call said) >>= λ call. Ok (running_on running n (File client call))
+    else found_or Unknown (client_number running.session.clients name) >>= λ client. numbered_call_read n client said running
 
 -- a client of that name holds a pass of that manager: so far only of the file manager
 unfoldable pub holds_of : Manager → Running → List ℕ → Bool
@@ -230,9 +235,13 @@ end_read n name manager running =
 unfoldable pub notify_read : ℕ → ℕ → Running → Result Running FaultKind
 notify_read n version running = if nat_lt 255 version then Err Limit else Ok (running_on running n (Notify version))
 
--- an `update` line, which is not built yet
-unfoldable pub update_read : ℕ → Result Running FaultKind
-update_read most = if nat_lt 4294967295 most then Err Limit else Err Unbuilt
+-- an `update` line
+unfoldable pub update_read : ℕ → ℕ → Running → Result Running FaultKind
+update_read n most running = if nat_lt 4294967295 most then Err Limit else Ok (running_on running n (Update most))
+
+-- an `ack` line
+unfoldable pub ack_read : ℕ → Running → Result Running FaultKind
+ack_read n running = Ok (running_on running n Ack)
 
 -- a line of this form that runs
 unfoldable pub run_read : ℕ → RunForm → Running → Result Running FaultKind
@@ -240,8 +249,8 @@ run_read n (form.Call name said) running = client_call_read n name said running
 run_read n (form.Begin name manager) running = begin_read n name manager running
 run_read n (form.End name manager) running = end_read n name manager running
 run_read n (form.Notify version) running = notify_read n version running
-run_read n (form.Update most) running = update_read most
-run_read n form.Ack running = Ok (running_on running n Ack)
+run_read n (form.Update most) running = update_read n most running
+run_read n form.Ack running = ack_read n running
 
 -- what a line that runs says, if anything
 unfoldable pub run_words_read : ℕ → List (List ℕ) → Running → Result Running FaultKind

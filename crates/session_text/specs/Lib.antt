@@ -4,6 +4,7 @@ pub mod CallForms
 pub mod Ranges
 pub mod SetupForms
 pub mod RunForms
+pub mod ArgumentForms
 pub mod Sessions
 pub mod Grammar
 pub mod Reading

@@ -1,16 +1,13 @@
 -- Paths, as the texts write them.
-use Rattle.std.specs.Prelude.{ℕ, Bool, ◌&&◌, ◌||◌, not, ◌==◌, nat_le, nat_lt, List, [], ◌∷◌, length, Option, Some, None, if◌then◌else◌, codes}
+use Rattle.std.specs.Prelude.{ℕ, Bool, ◌&&◌, ◌||◌, not, ◌==◌, nat_lt, List, [], ◌∷◌, length, Option, Some, None, if◌then◌else◌, codes}
 use Rattle.std.specs.List.{list_all, list_any, slice_split}
 use Rattle.std.specs.Str.{bytes_eq}
 use Rattle.flask_sid.specs.Names.{is_long}
-
--- a letter, a digit, `.`, `_` or `-`
-abbrev pub is_part_byte : ℕ → Bool
-is_part_byte b = (nat_le 97 b && nat_le b 122) || (nat_le 65 b && nat_le b 90) || (nat_le 48 b && nat_le b 57) || b == 46 || b == 95 || b == 45
+use Rattle.file_manager.specs.Formed.{is_path_byte}
 
 -- a part of a path, of any length: such bytes, one or more, and neither `.` nor `..`
 unfoldable pub is_part_form : List ℕ → Bool
-is_part_form part = nat_lt 0 (length part) && list_all is_part_byte part && not (bytes_eq part (codes ".")) && not (bytes_eq part (codes ".."))
+is_part_form part = nat_lt 0 (length part) && list_all is_path_byte part && not (bytes_eq part (codes ".")) && not (bytes_eq part (codes ".."))
 
 -- the parts of what stands behind the first `/`: none where that is nothing
 abbrev pub parts_behind : List ℕ → List (List ℕ)

@@ -1,6 +1,7 @@
 ghost use Rattle.std.specs.Prelude.{◌≡◌, ◌==◌, [], ◌∷◌, nat_lt, length, IfOk, MatchOption};
 ghost use Rattle.std.specs.List.{list_all, list_any};
 ghost use Rattle.flask_sid.specs.Names;
+ghost use Rattle.file_manager.specs.Formed;
 ghost use Rattle.session_text.specs.PathForms;
 ghost use Rattle.session_text.specs.Arguments;
 
@@ -185,13 +186,13 @@ fn is_part_form(part: &[u8]) -> bool
 }
 
 fn are_part_bytes(part: &[u8]) -> bool
-    ensures { result ≡ list_all PathForms.is_part_byte part.now }
+    ensures { result ≡ list_all Formed.is_path_byte part.now }
 {
-    part.iter().all(|b| is_part_byte(*b))
+    part.iter().all(|b| is_path_byte(*b))
 }
 
-fn is_part_byte(b: u8) -> bool
-    ensures { result ≡ PathForms.is_part_byte b }
+fn is_path_byte(b: u8) -> bool
+    ensures { result ≡ Formed.is_path_byte b }
 {
     b.is_ascii_lowercase()
         || b.is_ascii_uppercase()

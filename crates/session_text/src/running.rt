@@ -1,8 +1,10 @@
 ghost use Rattle.std.specs.Prelude.{◌≡◌, ◌<◌, replicate, false, length, IfOk, IfSome};
-ghost use Rattle.text_lines.specs.Refusals.{Gives, Fails};
+ghost use Rattle.text_lines.specs.Refusals.{Gives};
+ghost use Rattle.file_manager.specs.Formed.{IsCall};
 ghost use Rattle.session_text.specs.Grammar;
 ghost use Rattle.session_text.specs.Ranges;
-ghost use Rattle.session_text.specs.Sessions.{IsCall, IsRun};
+ghost use Rattle.session_text.specs.ArgumentForms.{IsCallForm, IsRunForm};
+ghost use Rattle.session_text.specs.Sessions.{IsRun};
 
 use crate::call_forms::{CallForm, FileForm, ProcessForm};
 use crate::look_up::{client_number, has_client};
@@ -117,13 +119,14 @@ fn none_held(alloc: Global, clients: usize) -> Result<Vec<bool>, Memory>
 }
 
 /// What a line that runs asks of the lines above it.
-#[tactic(auto, unfolding(crate::specs::Grammar::run_read))]
+#[tactic(auto, unfolding(crate::specs::Grammar::run_read, crate::specs::ArgumentForms::IsRunForm))]
 pub fn run_read(
     alloc: Global,
     line: u32,
     form: RunForm<'_>,
     running: Running,
 ) -> Result<Running, Refusal>
+    requires { IsRunForm form }
     ensures { Gives result (Grammar.run_read line form.entry running) }
 {
     match form {
@@ -131,8 +134,8 @@ pub fn run_read(
         RunForm::Begin(name, manager) => begin_read(line, name, manager, running),
         RunForm::End(name, manager) => end_read(line, name, manager, running),
         RunForm::Notify(version) => notify_read(line, version, running),
-        RunForm::Update(most) => Err(update_read(most)),
-        RunForm::Ack => Ok(running.with_line(line, Run::Ack)?),
+        RunForm::Update(most) => update_read(line, most, running),
+        RunForm::Ack => ack_read(line, running),
     }
 }
 
@@ -147,18 +150,25 @@ fn notify_read(line: u32, version: u64, running: Running) -> Result<Running, Ref
     Ok(running.with_line(line, Run::Notify { ver })?)
 }
 
-/// An `update` line, which is not built yet.
 #[tactic(auto, unfolding(crate::specs::Grammar::update_read))]
-fn update_read(most: u64) -> Refusal
-    ensures { Fails result (Grammar.update_read most) }
+fn update_read(line: u32, most: u64, running: Running) -> Result<Running, Refusal>
+    ensures { Gives result (Grammar.update_read line most running) }
 {
     if most > 4_294_967_295 {
-        Refusal::Fault(FaultKind::Limit)
-    } else {
-        Refusal::Fault(FaultKind::Unbuilt)
+        return Err(Refusal::Fault(FaultKind::Limit));
     }
+    let k = most as u32;
+    Ok(running.with_line(line, Run::Update { k })?)
 }
 
+#[tactic(auto, unfolding(crate::specs::Grammar::ack_read))]
+fn ack_read(line: u32, running: Running) -> Result<Running, Refusal>
+    ensures { Gives result (Grammar.ack_read line running) }
+{
+    Ok(running.with_line(line, Run::Ack)?)
+}
+
+/// A client's call.
 #[tactic(auto, unfolding(crate::specs::Grammar::client_call_read))]
 fn call_line_read(
     alloc: Global,
@@ -167,6 +177,7 @@ fn call_line_read(
     form: CallForm<'_>,
     running: Running,
 ) -> Result<Running, Refusal>
+    requires { IsCallForm form }
     ensures { Gives result (Grammar.client_call_read line name.entry form.entry running) }
 {
     if name.is_long() || is_past_call(&form) {
@@ -175,12 +186,46 @@ fn call_line_read(
     let Some(client) = running.number(&name) else {
         return Err(Refusal::Fault(FaultKind::Unknown));
     };
+    numbered_call_read(alloc, line, client, form, running)
+}
+
+/// A call of the client of that number.
+#[tactic(auto, unfolding(crate::specs::Grammar::numbered_call_read))]
+fn numbered_call_read(
+    alloc: Global,
+    line: u32,
+    client: u8,
+    form: CallForm<'_>,
+    running: Running,
+) -> Result<Running, Refusal>
+    requires client { client < length running.session.clients }
+    requires within { Ranges.is_past_call form ≡ false }
+    requires forms { IsCallForm form }
+    ensures { Gives result (Grammar.numbered_call_read line client form.entry running) }
+{
     if !is_receiver_known(running.session.clients(), &form) {
         return Err(Refusal::Fault(FaultKind::Unknown));
     }
     if !is_context_known(&running.session, &form) {
         return Err(Refusal::Fault(FaultKind::Undeclared));
     }
+    declared_call_read(alloc, line, client, form, running)
+}
+
+/// A call whose arguments are declared, where it is built.
+#[tactic(auto, unfolding(crate::specs::Grammar::declared_call_read))]
+fn declared_call_read(
+    alloc: Global,
+    line: u32,
+    client: u8,
+    form: CallForm<'_>,
+    running: Running,
+) -> Result<Running, Refusal>
+    requires client { client < length running.session.clients }
+    requires within { Ranges.is_past_call form ≡ false }
+    requires forms { IsCallForm form }
+    ensures { Gives result (Grammar.declared_call_read line client form.entry running) }
+{
     let Some(call) = built_call(alloc, form)? else {
         return Err(Refusal::Fault(FaultKind::Unbuilt));
     };
@@ -215,7 +260,8 @@ fn is_context_known(session: &Session, form: &CallForm<'_>) -> bool
 /// The call of the file manager, where it is of a built form.
 #[tactic(auto, unfolding(crate::specs::Grammar::built_call, crate::specs::Ranges::is_past_call, crate::specs::Ranges::is_past_file))]
 fn built_call(alloc: Global, form: CallForm<'_>) -> Result<Option<FileCall>, Memory>
-    requires { Ranges.is_past_call form ≡ false }
+    requires within { Ranges.is_past_call form ≡ false }
+    requires forms { IsCallForm form }
     ensures value { IfOk result (λ call. call ≡ Grammar.built_call form.entry) }
     ensures formed { IfOk result (λ call. IfSome call IsCall) }
 {
@@ -240,7 +286,27 @@ fn built_call(alloc: Global, form: CallForm<'_>) -> Result<Option<FileCall>, Mem
     }
 }
 
-#[tactic(auto, unfolding(crate::specs::Grammar::begin_read, crate::specs::Grammar::pass_on))]
+/// A client takes a pass of a manager or gives it back, where that is built.
+#[tactic(auto, unfolding(crate::specs::Grammar::pass_on))]
+fn pass_on(
+    manager: Manager,
+    line: u32,
+    run: Run,
+    client: u8,
+    now: bool,
+    running: Running,
+) -> Result<Running, Refusal>
+    requires run { IsRun (length running.session.clients) run }
+    requires client { client < length running.session.clients }
+    ensures { Gives result (Grammar.pass_on manager running line run client now) }
+{
+    match manager {
+        Manager::File => Ok(running.with_pass(line, run, client, now)?),
+        _ => Err(Refusal::Fault(FaultKind::Unbuilt)),
+    }
+}
+
+#[tactic(auto, unfolding(crate::specs::Grammar::begin_read))]
 fn begin_read(
     line: u32,
     name: Word<'_>,
@@ -258,13 +324,10 @@ fn begin_read(
     let Some(client) = running.number(&name) else {
         return Err(Refusal::Fault(FaultKind::Unknown));
     };
-    match manager {
-        Manager::File => Ok(running.with_pass(line, Run::Begin { client }, client, true)?),
-        _ => Err(Refusal::Fault(FaultKind::Unbuilt)),
-    }
+    pass_on(manager, line, Run::Begin { client }, client, true, running)
 }
 
-#[tactic(auto, unfolding(crate::specs::Grammar::end_read, crate::specs::Grammar::pass_on))]
+#[tactic(auto, unfolding(crate::specs::Grammar::end_read))]
 fn end_read(
     line: u32,
     name: Word<'_>,
@@ -279,8 +342,5 @@ fn end_read(
     let Some(client) = running.number(&name) else {
         return Err(Refusal::Fault(FaultKind::Unknown));
     };
-    match manager {
-        Manager::File => Ok(running.with_pass(line, Run::End { client }, client, false)?),
-        _ => Err(Refusal::Fault(FaultKind::Unbuilt)),
-    }
+    pass_on(manager, line, Run::End { client }, client, false, running)
 }

@@ -28,6 +28,8 @@ pub enum Run {
     End { client: u8 },
     /// The administrator chooses a version.
     Notify { ver: u8 },
+    /// The administrator lets the first `k` stale slots of each manager follow the pending number.
+    Update { k: u32 },
     /// The administrator asks whether the change is complete.
     Ack,
 }

@@ -35,7 +35,22 @@ pub fn file_read(
     }
     let path = path.kept(alloc)?;
     let sid = node_sid(&path, &context, &session)?;
-    Ok(session.with_file(path, sid, data_bytes(alloc, &bytes)?)?)
+    Ok(with_file(alloc, path, sid, &bytes, session)?)
+}
+
+/// The session with a file more.
+fn with_file(
+    alloc: Global,
+    path: FilePath,
+    sid: Sid,
+    bytes: &Option<Word<'_>>,
+    session: Session,
+) -> Result<Session, Memory>
+    requires { IsSidOf session.policy.contexts sid }
+    ensures { IfOk result (λ next. next ≡ Grammar.with_file path sid (Grammar.data_bytes bytes.now) session) }
+{
+    let bytes = data_bytes(alloc, bytes)?;
+    session.with_file(path, sid, bytes)
 }
 
 /// A `dir` line, which is not built yet.

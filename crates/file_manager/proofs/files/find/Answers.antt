@@ -9,7 +9,7 @@ returns-in-None-clause-node c = sym (no_node c.args.nodes.now c.args.path.now (s
 pub returns-in-Some-clause-node : goal.returns-in-Some-clause-node
 returns-in-Some-clause-node c =
     let found = node_found c.args.nodes.now c.args.path.now c.in-Some.at (sym c.place_of.ensures ∙ c.in-Some.is) in
-    sym (found.2 ∙ slice_get_read c.args.nodes.now (length c.args.nodes.now) c.in-Some.at c.index-nodes-at.result refl found.0 c.index-nodes-at.is)
+    sym (found.found ∙ slice_get_read c.args.nodes.now (length c.args.nodes.now) c.in-Some.at c.index-nodes-at.result refl found.within c.index-nodes-at.is)
 
 pub returns-in-Some-clause-at : goal.returns-in-Some-clause-at
 returns-in-Some-clause-at c = node_found c.args.nodes.now c.args.path.now c.in-Some.at (sym c.place_of.ensures ∙ c.in-Some.is)
