@@ -1,0 +1,5 @@
+pub mod RowLemmas
+pub mod EntryLemmas
+pub mod Paths
+pub mod TreeLemmas
+pub mod PlainLemmas

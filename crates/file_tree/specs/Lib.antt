@@ -1,0 +1,4 @@
+pub mod Shelves
+pub mod Nodes
+pub mod Bytes
+pub mod Plain
