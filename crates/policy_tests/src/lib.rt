@@ -5,4 +5,6 @@
 #[cfg(test)]
 mod contexts;
 #[cfg(test)]
+mod labels;
+#[cfg(test)]
 mod rows;
