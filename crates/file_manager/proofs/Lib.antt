@@ -1,9 +1,2 @@
-pub mod ExampleLemmas
 pub mod Bits
-pub mod MapLemmas
-pub mod Finding
-pub mod Following
-pub mod Revising
-pub mod SafeLemmas
-pub mod StateLemmas
-pub mod UseLemmas
+pub mod WalkLemmas

@@ -1,9 +1,2 @@
-pub mod Paths
-pub mod Formed
-pub mod Plain
-pub mod Honest
-pub mod Cores
-pub mod Uses
 pub mod Serving
-pub mod Laws
-pub mod Example
+pub mod Walking

@@ -1,6 +1,6 @@
 ghost use Rattle.std.specs.Prelude.{◌≡◌, ◌++◌, IsTrue, IfOk, OnOk};
 ghost use Rattle.access_vectors.specs.Asking.{with_keys_of};
-ghost use Rattle.file_manager.specs.Plain.{asking_mode};
+ghost use Rattle.file_calls.specs.States.{asking_mode};
 
 use access_vectors::perms::{FILE_APPEND, FILE_READ, FILE_WRITE};
 use access_vectors::{Asker, Perm, Questions, Vector, ask};

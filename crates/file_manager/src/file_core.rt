@@ -4,29 +4,38 @@ ghost use Rattle.access_vectors.specs.Decisions.{Decisions};
 ghost use Rattle.access_vectors.specs.declared.phase.Phase.{Phase};
 ghost use Rattle.retained_rights.specs.Rules.{Meets};
 ghost use Rattle.retained_rights.specs.declared.rule.Rule.{Rule};
-ghost use Rattle.file_manager.specs.Plain.{IsOpening, opened_with};
-ghost use Rattle.file_manager.specs.Cores.{Safe, state_of, follows};
+ghost use Rattle.file_calls.specs.Openings.{AreNodes, IsOpening};
+ghost use Rattle.file_calls.specs.States.{opened_with};
+ghost use Rattle.file_store.specs.Stores.{Safe, state_of, follows};
 
-use crate::call::{FileCall, FileReply};
-use crate::opening::FileOpening;
-use access_vectors::{Asker, Class, Decider, Questions, Steps};
-use flask_sid::Memory;
+use crate::closes::close;
+use crate::gives::give;
+use crate::lists::list;
+use crate::makes::make;
+use crate::opens::open;
+use crate::reads::read;
+use crate::relabels::relabel;
+use crate::stats::stat;
+use crate::unlinks::unlink;
+use crate::writes::{append, write};
+use access_vectors::{Asker, Decider, Questions, Steps};
+use file_calls::{FileCall, FileOpening, FileReply};
+use file_store::Files;
+use flask_sid::{Memory, Piece};
 use manager_history::Core;
-use retained_rights::{Callback, Grants, Rule};
+use retained_rights::Callback;
 use std::alloc::Global;
 use std::marker::Model;
 use std::sync::ledger::Ledger;
 
-/// The file manager as a core of histories: the files that it was opened with, and a grant for each used slot. Contracts
-/// see the opening and the rights.
+/// The file manager as a core of histories. Contracts see its files and rights.
 #[derive(Drop)]
 pub struct FileCore<F: Callback> {
-    pub(crate) opening: FileOpening,
-    pub(crate) grants: Grants<F>,
+    files: Files<F>,
 }
 
 impl<F: Callback> Model for FileCore<F> {
-    ghost use Rattle.std.specs.Prelude.{ℕ, List, ◌<◌, ◌^◌, length, refl};
+    ghost use Rattle.std.specs.Prelude.{ℕ, List, refl};
     ghost use Rattle.std.specs.Ordering.{nat_cmp};
     ghost use Rattle.std.specs.FinMap as maps;
     ghost use Rattle.std.specs.Coded.{code_by, coded×, coded_list, coded_ℕ};
@@ -38,34 +47,37 @@ impl<F: Callback> Model for FileCore<F> {
     ghost use Rattle.retained_rights.specs.contracts.rule.Rule as rule_type;
     ghost use Rattle.retained_rights.specs.declared.rule.Rule.{Rule};
     ghost use Rattle.retained_rights.specs.declared.grant.Grant.{Grant};
-    ghost use Rattle.file_manager.specs.contracts.opening.FileOpening as opening_type;
-    ghost use Rattle.file_manager.specs.declared.opening.FileOpening.{FileOpening};
-    ghost use Rattle.file_manager.specs.Cores.{Shown};
+    ghost use Rattle.file_tree.specs.contracts.node.Node as node_type;
+    ghost use Rattle.file_tree.specs.Nodes.{Nodes};
+    ghost use Rattle.file_calls.specs.contracts.opening.FileOpening as opening_type;
+    ghost use Rattle.file_calls.specs.declared.opening.FileOpening.{FileOpening};
+    ghost use Rattle.file_store.specs.Stores.{Shown};
 
     ghost Value = { Shown };
 
-    ghost coded = { code_by (FileOpening × (Rule × (Class × (Phase × (maps.FinMap nat_cmp Grant × List ℕ)))))
-        (coded× opening_type.the_row.coded (coded× rule_type.the_row.coded (coded× class_type.the_row.coded (coded× phase_type.the_row.coded
-        (coded× (maps.code coded_ℕ grant_type.the_row.coded) (coded_list coded_ℕ))))))
-        (λ v. (v.opening, (v.rights.rule, (v.rights.class, (v.rights.phase, (v.rights.held, v.rights.stale))))))
+    ghost coded = { code_by (FileOpening × (Nodes × (Rule × (Class × (Phase × (maps.FinMap nat_cmp Grant × List ℕ))))))
+        (coded× opening_type.the_row.coded (coded× (maps.code coded_ℕ node_type.the_row.coded) (coded× rule_type.the_row.coded
+        (coded× class_type.the_row.coded (coded× phase_type.the_row.coded
+        (coded× (maps.code coded_ℕ grant_type.the_row.coded) (coded_list coded_ℕ)))))))
+        (λ v. (v.opening, (v.nodes, (v.rights.rule, (v.rights.class, (v.rights.phase, (v.rights.held, v.rights.stale)))))))
         (λ p. record {
           opening = p.0;
-          rights = record { rule = p.1.0; class = p.1.1.0; phase = p.1.1.1.0; held = p.1.1.1.1.0; stale = p.1.1.1.1.1 };
+          nodes = p.1.0;
+          rights = record { rule = p.1.1.0; class = p.1.1.1.0; phase = p.1.1.1.1.0; held = p.1.1.1.1.1.0; stale = p.1.1.1.1.1.1 };
         }) (λ _. refl) };
 
-    ghost view = { λ core. record { opening = core.opening; rights = core.grants } };
-
-    ghost invariant = { λ core. length core.opening.nodes < 2 ^ 32 };
+    ghost view = { λ core. core.files };
 }
 
-/// The core that an opening gives: every slot is free, and the policy is settled at number 0 with version 0. The callback
-/// meets the rule Each. Nodes past the numbers of 32 bits are refused as want of memory.
+/// The core that an opening gives: its nodes stand in the tree, every slot is free, and the policy is settled at number 0
+/// with version 0. The callback meets the rule Each.
 pub fn new<F: Callback + Drop>(
     alloc: Global,
     opening: FileOpening,
     callback: F,
 ) -> Result<FileCore<F>, Memory>
-    requires { Meets F.may F.gives Rule.Each callback }
+    requires callback { Meets F.may F.gives Rule.Each callback }
+    requires nodes { AreNodes opening.nodes }
     ensures opening { IfOk result (λ core. core.opening ≡ opening) }
     ensures state { IfOk result (λ core. state_of core ≡ opened_with opening) }
     ensures follows { IfOk result (λ core. follows core ≡ maps.empty) }
@@ -73,21 +85,19 @@ pub fn new<F: Callback + Drop>(
     ensures settled { IfOk result (λ core. core.rights.phase ≡ Phase.Settled 0 0) }
     ensures fits { IfOk result (λ core. (d : Decisions) → 0 < d.versions → IsOpening d opening → Safe d core) }
 {
-    if opening.nodes.len() > u32::MAX as usize {
-        return Err(Memory);
-    }
-    let grants = Grants::new(alloc, Rule::Each, Class::File, callback);
-    Ok(FileCore { opening, grants })
+    let files = Files::new(alloc, opening, callback)?;
+    Ok(FileCore { files })
 }
 
 impl<F: Callback> Core for FileCore<F> {
     ghost use Rattle.access_vectors.specs.declared.class.Class.TheVariants.{File};
-    ghost use Rattle.file_manager.specs.Plain as plainly;
-    ghost use Rattle.file_manager.specs.Plain.{FileState, IsFormed, opened_with};
-    ghost use Rattle.file_manager.specs.Cores as cores;
-    ghost use Rattle.file_manager.specs.Cores.{Safe, state_of};
-    ghost use Rattle.file_manager.specs.Honest.{honest_answer};
-    ghost use Rattle.file_manager.specs.Laws.{stale_as_defined, follows_named};
+    ghost use Rattle.file_calls.specs.Honest.{honest_answer};
+    ghost use Rattle.file_calls.specs.Plain as plainly;
+    ghost use Rattle.file_calls.specs.Plain.{IsFormed};
+    ghost use Rattle.file_calls.specs.States.{FileState, opened_with};
+    ghost use Rattle.file_store.specs.Stores as stores;
+    ghost use Rattle.file_store.specs.Stores.{Safe, state_of};
+    ghost use Rattle.file_store.specs.Laws.{stale_as_defined, follows_named};
 
     type Call = FileCall;
 
@@ -103,7 +113,7 @@ impl<F: Callback> Core for FileCore<F> {
 
     ghost plain = { plainly.answer };
 
-    ghost formed = { λ d state caller call. IsFormed state caller call };
+    ghost formed = { λ d state caller call. IsFormed d state caller call };
 
     ghost denial_of = { plainly.denial_of };
 
@@ -113,7 +123,7 @@ impl<F: Callback> Core for FileCore<F> {
 
     ghost use_of = { plainly.use_of };
 
-    ghost follows = { λ core. cores.follows core };
+    ghost follows = { λ core. stores.follows core };
 
     ghost followed = { plainly.followed };
 
@@ -130,16 +140,106 @@ impl<F: Callback> Core for FileCore<F> {
         asker: &mut A,
         asked: &mut Questions,
     ) -> Result<(FileReply, FileReply), Memory> {
+        let files = &mut self.files;
         match call {
+            FileCall::Mkdir { path } => {
+                make(
+                    files,
+                    alloc,
+                    caller,
+                    path.as_slice(),
+                    None,
+                    number,
+                    asker,
+                    asked,
+                )
+            }
+            FileCall::Create { path } => {
+                let bytes = Some(Piece::new(alloc));
+                make(
+                    files,
+                    alloc,
+                    caller,
+                    path.as_slice(),
+                    bytes,
+                    number,
+                    asker,
+                    asked,
+                )
+            }
             FileCall::OpenFile { slot, path, mode } => {
-                let s = self.sid(caller);
-                self.open(caller, *slot, s, path, *mode, number, asker, asked)
+                open(
+                    files,
+                    caller,
+                    *slot,
+                    path.as_slice(),
+                    *mode,
+                    number,
+                    asker,
+                    asked,
+                )
             }
             FileCall::ReadFile {
                 slot,
                 offset,
                 length,
-            } => self.read(alloc, caller, *slot, *offset, *length, number, asker, asked),
+            } => read(
+                files, alloc, caller, *slot, *offset, *length, number, asker, asked,
+            ),
+            FileCall::WriteFile {
+                slot,
+                offset,
+                piece,
+            } => write(
+                files,
+                alloc,
+                caller,
+                *slot,
+                *offset,
+                piece.as_bytes(),
+                number,
+                asker,
+                asked,
+            ),
+            FileCall::AppendFile { slot, piece } => {
+                append(
+                    files,
+                    alloc,
+                    caller,
+                    *slot,
+                    piece.as_bytes(),
+                    number,
+                    asker,
+                    asked,
+                )
+            }
+            FileCall::CloseFile { slot } => Ok(close(files, caller, *slot)),
+            FileCall::Unlink { path } => {
+                unlink(files, caller, path.as_slice(), number, asker, asked)
+            }
+            FileCall::List { path, skip } => {
+                list(
+                    files,
+                    alloc,
+                    caller,
+                    path.as_slice(),
+                    *skip,
+                    number,
+                    asker,
+                    asked,
+                )
+            }
+            FileCall::StatFile { path } => {
+                stat(files, caller, path.as_slice(), number, asker, asked)
+            }
+            FileCall::Relabel { path, sid } => {
+                relabel(files, caller, path.as_slice(), *sid, number, asker, asked)
+            }
+            FileCall::Give {
+                slot,
+                client,
+                target,
+            } => give(files, caller, *slot, *client, *target, number, asker, asked),
         }
     }
 
@@ -151,20 +251,19 @@ impl<F: Callback> Core for FileCore<F> {
         old: u8,
         new: u8,
     ) -> Result<u64, Memory> {
-        let found = self.grants.start(decider, number, old, new)?;
-        Ok(found)
+        self.files.start(decider, number, old, new)
     }
 
     fn revise<D: Decider, L: Ledger>(&mut self, decider: &D, k: u64, steps: &mut Steps<L>) -> u64 {
-        self.grants.revise(decider, k, steps)
+        self.files.revise(decider, k, steps)
     }
 
     fn left(&self) -> u64 {
-        self.grants.left()
+        self.files.left()
     }
 
     fn settle(&mut self) {
-        self.grants.settle();
+        self.files.settle();
     }
 
     ghost honest = { λ d at caller call number version. honest_answer d at caller call number version };

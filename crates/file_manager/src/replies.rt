@@ -1,26 +1,24 @@
 ghost use Rattle.std.specs.Prelude.{◌≡◌, take, drop, IfOk};
-ghost use Rattle.file_manager.specs.Plain.{bytes_of};
-ghost use Rattle.file_manager.specs.declared.call.FileReply.{FileReply};
+ghost use Rattle.file_calls.specs.declared.call.FileReply.{FileReply};
+ghost use Rattle.file_manager.specs.Walking;
 
-use crate::call::FileReply;
-use crate::opening::Node;
+use crate::walks::Stop;
 use access_vectors::Perm;
+use file_calls::FileReply;
 use flask_sid::{Memory, Piece};
 use std::alloc::Global;
 
-/// At most `most` of a node's bytes from `offset` on, for the history and for the caller.
+/// At most `most` of the bytes from `offset` on, for the history and for the caller.
 pub fn read_bytes(
     alloc: Global,
-    node: &Node,
+    bytes: &[u8],
     offset: u32,
     most: u32,
 ) -> Result<(FileReply, FileReply), Memory>
-    ensures history { IfOk result (λ replies. replies.0
-        ≡ FileReply.Bytes (take most (drop offset (bytes_of node.now)))) }
-    ensures caller { IfOk result (λ replies. replies.1
-        ≡ FileReply.Bytes (take most (drop offset (bytes_of node.now)))) }
+    ensures history { IfOk result (λ replies. replies.0 ≡ FileReply.Bytes (take most (drop offset bytes.now))) }
+    ensures caller { IfOk result (λ replies. replies.1 ≡ FileReply.Bytes (take most (drop offset bytes.now))) }
 {
-    let bytes = part(contents(node), offset, most);
+    let bytes = part(bytes, offset, most);
     let kept = Piece::of(alloc, bytes)?;
     Ok((
         FileReply::Bytes(kept),
@@ -39,13 +37,15 @@ pub fn denied(perm: Perm, policy: u32) -> (FileReply, FileReply)
     )
 }
 
-/// The bytes of a node, none of a directory.
-fn contents(node: &Node) -> &[u8]
-    ensures { result.now ≡ bytes_of node.now }
+/// The reply of a call whose walk stopped, for the history and for the caller.
+pub fn stopped(stop: Stop) -> (FileReply, FileReply)
+    ensures history { result.0 ≡ Walking.said_of stop }
+    ensures caller { result.1 ≡ Walking.said_of stop }
 {
-    match &node.bytes {
-        None => &[],
-        Some(bytes) => bytes.as_bytes(),
+    match stop {
+        Stop::NotFound => (FileReply::NotFound, FileReply::NotFound),
+        Stop::NotDir => (FileReply::NotDir, FileReply::NotDir),
+        Stop::Denied { perm, policy } => denied(perm, policy),
     }
 }
 

@@ -3,3 +3,4 @@ pub mod EntryLemmas
 pub mod Paths
 pub mod TreeLemmas
 pub mod PlainLemmas
+pub mod BelowLemmas

@@ -1,7 +1,8 @@
-ghost use Rattle.std.specs.Prelude.{◌≡◌, true, IfOk, MatchBool};
+ghost use Rattle.std.specs.Prelude.{◌≡◌, true, length, take, drop, IfOk, MatchBool};
 ghost use Rattle.std.specs.List.{list_any};
 ghost use Rattle.std.specs.FinMap as maps;
 ghost use Rattle.file_tree.specs.Nodes;
+ghost use Rattle.file_tree.specs.Plain.{plain, names_below, has_entry_below};
 ghost use Rattle.file_tree.specs.Nodes.{HasEntry, HasNoEntry, IsCount, IsPage, is_directory, path_in};
 
 use crate::node::Node;
@@ -21,7 +22,8 @@ impl Tree {
         most: usize,
     ) -> Result<Rows<Piece>, Memory>
         requires { is_directory (maps.get self.now directory) ≡ true }
-        ensures { IfOk result (λ names. IsPage self.now (path_in self.now directory) key skip most names) }
+        ensures page { IfOk result (λ names. IsPage self.now (path_in self.now directory) key skip most names) }
+        ensures plain { IfOk result (λ names. names ≡ take most (drop skip (names_below (plain self.now) (path_in self.now directory) key))) }
     {
         self.entries
             .names(alloc, place_of(directory, key), skip, most)
@@ -30,7 +32,8 @@ impl Tree {
     /// How many entries a directory has under a key.
     pub fn count(&self, directory: u32, key: u16) -> usize
         requires { is_directory (maps.get self.now directory) ≡ true }
-        ensures { IsCount self.now (path_in self.now directory) key result }
+        ensures count { IsCount self.now (path_in self.now directory) key result }
+        ensures plain { result ≡ length (names_below (plain self.now) (path_in self.now directory) key) }
     {
         self.entries.count(place_of(directory, key))
     }
@@ -38,7 +41,8 @@ impl Tree {
     /// Whether a directory has an entry under any key.
     pub fn has_entries(&self, directory: u32) -> bool
         requires { is_directory (maps.get self.now directory) ≡ true }
-        ensures { MatchBool result (HasEntry self.now (path_in self.now directory)) (HasNoEntry self.now (path_in self.now directory)) }
+        ensures entry { MatchBool result (HasEntry self.now (path_in self.now directory)) (HasNoEntry self.now (path_in self.now directory)) }
+        ensures plain { result ≡ has_entry_below (plain self.now) (path_in self.now directory) }
     {
         some_in(self.slots.as_slice(), directory)
     }

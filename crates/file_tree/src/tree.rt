@@ -1,8 +1,8 @@
-ghost use Rattle.std.specs.Prelude.{◌≡◌, true, [], None, Some, IfOk, OnOk, OnErr, MatchOption};
+ghost use Rattle.std.specs.Prelude.{◌≡◌, ◌++◌, true, [], None, Some, is_some, IfOk, IfSome, OnOk, OnErr, MatchOption};
 ghost use Rattle.std.specs.FinMap as maps;
 ghost use Rattle.std.specs.Option.{option_copied};
 ghost use Rattle.file_tree.specs.Nodes.{AreInParents, ArePathsOnce, IsAt, IsFree, HasNoEntry, added, is_directory, path_in, step_from};
-ghost use Rattle.file_tree.specs.Plain.{IsMirrored, plain, plain_without};
+ghost use Rattle.file_tree.specs.Plain.{IsMirrored, plain, plain_without, item_of, item_in, steps_of};
 ghost use Rattle.file_tree.specs.Shelves.{place_of};
 
 use crate::entries::EntryIndex;
@@ -92,7 +92,8 @@ impl Tree {
 
     /// A numbered node, or `None` exactly where there is none of that number.
     pub fn node(&self, number: u32) -> Option<&Node>
-        ensures { option_copied result ≡ maps.get self.now number }
+        ensures node { option_copied result ≡ maps.get self.now number }
+        ensures plain { IfSome result (λ node. maps.get (plain self.now) node.now.path ≡ Some (item_of node.now)) }
     {
         self.slots.as_slice().get(number as usize)?.as_ref()
     }
@@ -110,10 +111,36 @@ impl Tree {
     /// The number of what stands in a directory under a key and a name, or `None` exactly where nothing does.
     pub fn entry(&self, directory: u32, key: u16, name: &[u8]) -> Option<u32>
         requires { is_directory (maps.get self.now directory) ≡ true }
-        ensures { let path = step_from (path_in self.now directory) key name.now in
+        ensures there { let path = step_from (path_in self.now directory) key name.now in
             MatchOption result (IsFree self.now path) (IsAt self.now path) }
+        ensures plain { maps.get (plain self.now) (step_from (path_in self.now directory) key name.now) ≡ item_in self.now result }
     {
         self.entries.get(place_of(directory, key), name)
+    }
+
+    /// The number of what stands at a path of names under key 0, or `None` exactly where nothing does.
+    pub fn find(&self, names: &[Piece]) -> Option<u32>
+        ensures there { MatchOption result (IsFree self.now (steps_of names.now)) (IsAt self.now (steps_of names.now)) }
+        ensures plain { maps.get (plain self.now) (steps_of names.now) ≡ item_in self.now result }
+    {
+        self.find_from(self.root(), names)
+    }
+
+    // The number of what stands at a path of names under key 0 below a node.
+    fn find_from(&self, here: u32, names: &[Piece]) -> Option<u32>
+        requires { is_some (maps.get self.now here) ≡ true }
+        ensures { let path = path_in self.now here ++ steps_of names.now in
+            MatchOption result (IsFree self.now path) (IsAt self.now path) }
+    {
+        let [name, rest @ ..] = names else {
+            return Some(here);
+        };
+        let _root = self.root();
+        if self.node(here)?.bytes.is_some() {
+            return None;
+        }
+        let next = self.entry(here, 0, name.as_bytes())?;
+        self.find_from(next, rest)
     }
 
     /// Adds an entry to a directory, and answers the new node's number. After `Memory` all is as before.

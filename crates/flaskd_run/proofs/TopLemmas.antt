@@ -117,16 +117,16 @@ refused_policy session policy (Neverallow version line s t perm) said put same j
 refused_policy session policy Memory said put same judged is = rw is (memory_served (Ok session) put)
 
 -- a session that ran to its end
-pub ok_served : (session parts : SessionParts) (contexts : List (ContextOf (List ℕ))) (d : Decisions) (put now : Option (List ℕ)) → parts ≡ session → IsJudged parts.policy (Fits contexts) → d ≡ decisions_of parts.policy contexts → Adds put now (text_on d parts) → Served status.Ok (Ok session) put now
+pub ok_served : (session parts : SessionParts) (contexts : List (ContextOf (List ℕ))) (d : Decisions) (put now : Option (List ℕ)) → parts ≡ session → IsJudged parts.policy (Fits contexts) → d ≡ decisions_of parts.policy contexts → Adds put now (text_on contexts d parts) → Served status.Ok (Ok session) put now
 ok_served session parts contexts d put now same judged decides adds =
     rw (← same) (record { judged = Some (Fits contexts); is_judged = judged; answers = refl; puts = rw decides at adds })
 
 -- a session of whose text a front was written before the sink failed
-pub failed_served : (session parts : SessionParts) (contexts : List (ContextOf (List ℕ))) (d : Decisions) (put now : Option (List ℕ)) → parts ≡ session → IsJudged parts.policy (Fits contexts) → d ≡ decisions_of parts.policy contexts → AddsFront put now (text_on d parts) → Served status.WriteFault (Ok session) put now
+pub failed_served : (session parts : SessionParts) (contexts : List (ContextOf (List ℕ))) (d : Decisions) (put now : Option (List ℕ)) → parts ≡ session → IsJudged parts.policy (Fits contexts) → d ≡ decisions_of parts.policy contexts → AddsFront put now (text_on contexts d parts) → Served status.WriteFault (Ok session) put now
 failed_served session parts contexts d put now same judged decides adds =
     rw (← same) (record { judged = Some (Fits contexts); is_judged = judged; answers = refl; puts = rw decides at adds })
 
 -- or before memory was wanting
-pub cut_served : (session parts : SessionParts) (contexts : List (ContextOf (List ℕ))) (d : Decisions) (put now : Option (List ℕ)) → parts ≡ session → IsJudged parts.policy (Fits contexts) → d ≡ decisions_of parts.policy contexts → AddsFront put now (text_on d parts) → Served status.Memory (Ok session) put now
+pub cut_served : (session parts : SessionParts) (contexts : List (ContextOf (List ℕ))) (d : Decisions) (put now : Option (List ℕ)) → parts ≡ session → IsJudged parts.policy (Fits contexts) → d ≡ decisions_of parts.policy contexts → AddsFront put now (text_on contexts d parts) → Served status.Memory (Ok session) put now
 cut_served session parts contexts d put now same judged decides adds =
     rw (← same) (record { judged = Some (Fits contexts); is_judged = judged; answers = tt; puts = rw decides at adds })

@@ -8,9 +8,12 @@ use Rattle.access_vectors.specs.Phases.{MayName}
 use Rattle.access_vectors.specs.Stale.{Follows}
 use Rattle.access_vectors.specs.contracts.phase.Phase as phase_type
 use Rattle.access_vectors.specs.declared.phase.Phase.{Phase}
-use Rattle.file_manager.specs.Plain.{Held, FileState}
-use Rattle.file_manager.specs.contracts.opening.FileOpening as opening_type
-use Rattle.file_manager.specs.declared.opening.FileOpening.{FileOpening}
+use Rattle.file_tree.specs.Plain.{PlainTree, Item}
+use Rattle.file_tree.specs.contracts.step.Step as step_type
+use Rattle.file_tree.specs.declared.step.Step.{Step}
+use Rattle.file_calls.specs.States.{Held, FileState}
+use Rattle.file_calls.specs.contracts.opening.FileOpening as opening_type
+use Rattle.file_calls.specs.declared.opening.FileOpening.{FileOpening}
 use Rattle.manager_history.specs.declared.answers.NotifyFault.{NotifyFault}
 use Rattle.manager_history.specs.declared.answers.NotifyFault.TheVariants as faults
 use Rattle.flaskd_run.specs.Serial.{Day}
@@ -22,11 +25,17 @@ pub record Standing (Decider : Type 0) : Type 0 where
 
 -- how a proof tells two of them apart: by the fields
 abbrev pub held_code : Coded Held
-held_code = code_by (List (List ℕ) × ℕ) (coded× (coded_list (coded_list coded_ℕ)) coded_ℕ) (λ held. (held.path, held.mode)) (λ p. record { path = p.0; mode = p.1 }) (λ _. refl)
+held_code = code_by (List Step × ℕ) (coded× (coded_list step_type.the_row.coded) coded_ℕ) (λ held. (held.path, held.mode)) (λ p. record { path = p.0; mode = p.1 }) (λ _. refl)
+
+abbrev pub item_code : Coded Item
+item_code = code_by (ℕ × Option (List ℕ)) (coded× coded_ℕ (coded_option (coded_list coded_ℕ))) (λ item. (item.label, item.bytes)) (λ p. record { label = p.0; bytes = p.1 }) (λ _. refl)
 
 abbrev pub state_code : Coded FileState
 state_code =
-    code_by (FileOpening × FinMap nat_cmp Held) (coded× opening_type.the_row.coded (maps.code coded_ℕ held_code)) (λ state. (state.opening, state.slots)) (λ p. record { opening = p.0; slots = p.1 }) (λ _. refl)
+    code_by (FileOpening × (PlainTree × FinMap nat_cmp Held)) (coded× opening_type.the_row.coded (coded× (maps.code (coded_list step_type.the_row.coded) item_code) (maps.code coded_ℕ held_code)))
+    (λ state. (state.opening, (state.tree, state.slots)))
+    (λ p. record { opening = p.0; tree = p.1.0; slots = p.1.1 })
+    (λ _. refl)
 
 abbrev pub day_code : Coded Day
 day_code =

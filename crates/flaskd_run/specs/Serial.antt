@@ -14,9 +14,10 @@ use Rattle.manager_history.specs.declared.answers.Ack.{Ack}
 use Rattle.manager_history.specs.declared.answers.NotifyFault.{NotifyFault}
 use Rattle.manager_history.specs.declared.answers.NotifyFault.TheVariants as faults
 use Rattle.policy_versions.specs.Judging.{decisions_of}
-use Rattle.file_manager.specs.Plain.{FileState, FileAnswer, answer, followed, pair_of, opened_with, denial_of}
-use Rattle.file_manager.specs.declared.call.FileCall.{FileCall}
-use Rattle.file_manager.specs.declared.opening.FileOpening.{FileOpening}
+use Rattle.file_calls.specs.Plain.{answer, followed, pair_of, denial_of}
+use Rattle.file_calls.specs.States.{FileState, FileAnswer, opened_with}
+use Rattle.file_calls.specs.declared.call.FileCall.{FileCall}
+use Rattle.file_calls.specs.declared.opening.FileOpening.{FileOpening}
 use Rattle.session_text.specs.declared.session.ClientLine.{ClientLine}
 use Rattle.session_text.specs.declared.session.Run.{Run}
 use Rattle.session_text.specs.declared.session.Run.TheVariants as run
@@ -39,11 +40,11 @@ pub record Day : Type 0 where
 abbrev pub most_number : ℕ
 most_number = 1048575
 
--- what the file manager is opened with: the identifier of the first context for the root
+-- what the file manager is opened with: the root has the context that is given it, or else the first one
 abbrev pub opening_of : SessionParts → FileOpening
 opening_of session = record {
   clients = map (λ client. client.sid) session.clients;
-  root = 1;
+  root = unwrap_or session.root 1;
   nodes = session.nodes;
 }
 
@@ -85,10 +86,10 @@ abbrev pub answer_on : Decisions → Day → ℕ → FileCall → FileAnswer
 answer_on d day client call = answer d day.files client call (acting_number day client) (version_at day.phase (acting_number day client))
 
 -- after a client's call, and its answer
-abbrev pub day_called : Day → ℕ → FileCall → FileAnswer → Day
-day_called day client call answer = record {
+abbrev pub day_called : Decisions → Day → ℕ → FileCall → FileAnswer → Day
+day_called d day client call answer = record {
   files = answer.state;
-  follows = followed day.files client call (acting_number day client) answer.reply day.follows;
+  follows = followed d day.files client call (acting_number day client) (version_at day.phase (acting_number day client)) answer.reply day.follows;
   phase = day.phase;
   held = day.held;
   calls = day.calls + 1;
@@ -142,7 +143,7 @@ day_acknowledged day false = day
 
 -- after a line
 abbrev pub day_after : Decisions → Day → Run → Day
-day_after d day (run.File client call) = day_called day client call (answer_on d day client call)
+day_after d day (run.File client call) = day_called d day client call (answer_on d day client call)
 day_after d day (run.Begin client) = with_held day (passes_begun day.held client (number_of day.phase) (pass_of day.held client))
 day_after d day (run.End client) = with_held day (passes_ended day.held client (pass_of day.held client))
 day_after d day (run.Notify version) = record day { phase = phase_chosen (refusal_of d day version) day.phase version }
@@ -154,24 +155,26 @@ abbrev pub IsDayUnlessMemory : Result ℕ NotifyFault → Day → Day → Type 0
 IsDayUnlessMemory (Err faults.Memory) new after = Unit {0}
 IsDayUnlessMemory said new after = new ≡ after
 
--- what a line prints
-abbrev pub line_text : Decisions → List ClientLine → Day → ℕ → Run → List ℕ
-line_text d clients day n (run.File client call) = client_text n (name_of clients client) (acting_number day client) (reply_text (answer_on d day client call).reply)
-line_text d clients day n (run.Begin client) = client_text n (name_of clients client) (acting_number day client) (codes "begun")
-line_text d clients day n (run.End client) = client_text n (name_of clients client) (acting_number day client) (codes "ended")
-line_text d clients day n (run.Notify version) = admin_text n (notice_text (refusal_of d day version) (number_of day.phase + 1))
-line_text d clients day n (run.Update most) = admin_text n (updated_text (length (drop most (stale_on d day))))
-line_text d clients day n run.Ack = admin_text n (ack_text (ack_on d day))
+-- what a line prints, where these contexts have identifiers
+abbrev pub line_text : List (ContextOf (List ℕ)) → Decisions → List ClientLine → Day → ℕ → Run → List ℕ
+line_text contexts d clients day n (run.File client call) =
+    client_text n (name_of clients client) (acting_number day client) (reply_text contexts (answer_on d day client call).reply)
+line_text contexts d clients day n (run.Begin client) = client_text n (name_of clients client) (acting_number day client) (codes "begun")
+line_text contexts d clients day n (run.End client) = client_text n (name_of clients client) (acting_number day client) (codes "ended")
+line_text contexts d clients day n (run.Notify version) = admin_text n (notice_text (refusal_of d day version) (number_of day.phase + 1))
+line_text contexts d clients day n (run.Update most) = admin_text n (updated_text (length (drop most (stale_on d day))))
+line_text contexts d clients day n run.Ack = admin_text n (ack_text (ack_on d day))
 
 -- what lines print from there on, and the summary
-abbrev pub lines_text : Decisions → List ClientLine → Day → List RunLine → List ℕ
-lines_text d clients day [] = summary_text day.calls day.denied day.changes
-lines_text d clients day (line ∷ lines) = line_text d clients day line.line line.run ++ lines_text d clients (day_after d day line.run) lines
+abbrev pub lines_text : List (ContextOf (List ℕ)) → Decisions → List ClientLine → Day → List RunLine → List ℕ
+lines_text contexts d clients day [] = summary_text day.calls day.denied day.changes
+lines_text contexts d clients day (line ∷ lines) =
+    line_text contexts d clients day line.line line.run ++ lines_text contexts d clients (day_after d day line.run) lines
 
--- what a session prints under these decisions
-unfoldable pub text_on : Decisions → SessionParts → List ℕ
-text_on d session = lines_text d session.clients (morning session) session.lines
+-- what a session prints under these decisions on these contexts
+unfoldable pub text_on : List (ContextOf (List ℕ)) → Decisions → SessionParts → List ℕ
+text_on contexts d session = lines_text contexts d session.clients (morning session) session.lines
 
 -- what a session prints, where its policy decides on these contexts
 abbrev pub serial_text : List (ContextOf (List ℕ)) → SessionParts → List ℕ
-serial_text contexts session = text_on (decisions_of session.policy contexts) session
+serial_text contexts session = text_on contexts (decisions_of session.policy contexts) session

@@ -5,8 +5,10 @@ use Rattle.manager_history.specs.declared.answers.Ack.{Ack}
 use Rattle.manager_history.specs.declared.answers.Ack.TheVariants as acks
 use Rattle.manager_history.specs.declared.answers.NotifyFault.{NotifyFault}
 use Rattle.manager_history.specs.declared.answers.NotifyFault.TheVariants as faults
-use Rattle.file_manager.specs.declared.call.FileReply.{FileReply}
-use Rattle.file_manager.specs.declared.call.FileReply.TheVariants.{Done, Bytes, Denied, NotFound, IsDir, BadSlot, SlotUsed, BadMode}
+use Rattle.flask_sid.specs.declared.context.ContextOf.{ContextOf}
+use Rattle.policy_versions.specs.Judging.{context_with}
+use Rattle.file_calls.specs.declared.call.FileReply.{FileReply}
+use Rattle.file_calls.specs.declared.call.FileReply.TheVariants as reply
 
 -- a permission with its class
 abbrev pub perm_text : Permission → List ℕ
@@ -17,16 +19,40 @@ abbrev pub data_text : List ℕ → List ℕ
 data_text [] = codes "data 0"
 data_text (b ∷ bs) = codes "data " ++ decimal (length (b ∷ bs)) ++ codes " " ++ (b ∷ bs)
 
--- a reply of the file manager
-abbrev pub reply_text : FileReply → List ℕ
-reply_text Done = codes "done"
-reply_text (Bytes bytes) = data_text bytes
-reply_text (Denied perm policy) = codes "denied " ++ perm_text perm
-reply_text NotFound = codes "notfound"
-reply_text IsDir = codes "isdir"
-reply_text BadSlot = codes "badslot"
-reply_text SlotUsed = codes "slotused"
-reply_text BadMode = codes "badmode"
+-- names, each behind a space
+abbrev pub behind_spaces : List (List ℕ) → List ℕ
+behind_spaces [] = []
+behind_spaces (name ∷ names) = codes " " ++ name ++ behind_spaces names
+
+-- names that were listed: how many, and these
+abbrev pub names_text : List (List ℕ) → List ℕ
+names_text names = codes "names " ++ decimal (length names) ++ behind_spaces names
+
+-- a context, as texts have it
+abbrev pub context_text : ContextOf (List ℕ) → List ℕ
+context_text context = context.user ++ codes ":" ++ context.role ++ codes ":" ++ context.kind
+
+-- a label's context, and a number
+abbrev pub stat_text : ContextOf (List ℕ) → ℕ → List ℕ
+stat_text label number = codes "stat " ++ context_text label ++ codes " " ++ decimal number
+
+-- a reply of the file manager, whose labels are identifiers of these contexts
+abbrev pub reply_text : List (ContextOf (List ℕ)) → FileReply → List ℕ
+reply_text contexts reply.Done = codes "done"
+reply_text contexts (reply.Bytes bytes) = data_text bytes
+reply_text contexts (reply.Names names) = names_text names
+reply_text contexts (reply.Stat sid number) = stat_text (context_with contexts sid) number
+reply_text contexts (reply.Denied perm policy) = codes "denied " ++ perm_text perm
+reply_text contexts reply.NotFound = codes "notfound"
+reply_text contexts reply.NotDir = codes "notdir"
+reply_text contexts reply.IsDir = codes "isdir"
+reply_text contexts reply.Exists = codes "exists"
+reply_text contexts reply.NotEmpty = codes "notempty"
+reply_text contexts reply.BadSlot = codes "badslot"
+reply_text contexts reply.SlotUsed = codes "slotused"
+reply_text contexts reply.BadMode = codes "badmode"
+reply_text contexts reply.TooBig = codes "toobig"
+reply_text contexts reply.TooMany = codes "toomany"
 
 -- the front of a client's line: its number in the text, the client, the manager, and the policy number
 abbrev pub client_front : ℕ → List ℕ → ℕ → List ℕ

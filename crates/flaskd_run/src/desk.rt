@@ -1,15 +1,17 @@
-ghost use Rattle.std.specs.Prelude.{◌≡◌, ◌+◌, ◌<◌, ◌^◌, length, take, drop, is_some, IfOk, OnOk};
+ghost use Rattle.std.specs.Prelude.{◌≡◌, ◌+◌, ◌<◌, ◌^◌, length, take, drop, IfOk, OnOk};
 ghost use Rattle.access_vectors.specs.Phases.{number_of};
 ghost use Rattle.access_vectors.specs.Stale.{now_following};
-ghost use Rattle.file_manager.specs.Plain.{IsFormed, IsOpening, denial_of};
-ghost use Rattle.file_manager.specs.Cores.{state_of, follows};
+ghost use Rattle.file_calls.specs.Openings.{AreNodes, IsOpening};
+ghost use Rattle.file_calls.specs.Plain.{IsFormed, denial_of};
+ghost use Rattle.file_store.specs.Stores.{state_of, follows};
 ghost use Rattle.flaskd_run.specs.Serial;
 ghost use Rattle.flaskd_run.specs.Desks.{IsSaid};
 ghost use Rattle.session_text.specs.declared.session.Run.{Run};
 
 use crate::file_rights::FileRights;
 use access_vectors::{Decider, Plainly, Steps};
-use file_manager::{FileCall, FileCore, FileOpening, FileReply};
+use file_calls::{FileCall, FileOpening, FileReply};
+use file_manager::FileCore;
 use flask_sid::Memory;
 use manager_history::{Ack, Keeper, NotifyFault, Passes};
 use std::alloc::Global;
@@ -37,7 +39,7 @@ pub struct Desk<'d, D: Decider> {
 impl<'d, D: Decider> Model for Desk<'d, D> {
     ghost use Rattle.std.specs.Prelude.{◌≡◌, ◌≤◌};
     ghost use Rattle.access_vectors.specs.Phases.{number_of, AreVersions};
-    ghost use Rattle.file_manager.specs.Cores.{state_of, follows};
+    ghost use Rattle.file_store.specs.Stores.{state_of, follows};
     ghost use Rattle.flaskd_run.specs.Desks.{Standing, standing_code, AreNamed};
 
     ghost Value = { Standing D };
@@ -76,7 +78,7 @@ impl<'d, D: Decider> Desk<'d, D> {
     /// The desk before the first line.
     pub fn new(alloc: Global, decider: &'d D, opening: FileOpening) -> Result<Desk<'d, D>, Memory>
         requires opening { IsOpening (D.decides decider.now) opening }
-        requires few { length opening.clients < 256 }
+        requires nodes { AreNodes opening.nodes }
         ensures { IfOk result (λ desk. desk ≡ record { day = Serial.morning_of opening; decider = decider.now }) }
     {
         let core = file_manager::new(alloc, opening, FileRights)?;
@@ -98,7 +100,7 @@ impl<'d, D: Decider> Desk<'d, D> {
         client: u8,
         call: FileCall,
     ) -> Result<Acted, Memory>
-        requires formed { IsFormed self.old.day.files client call }
+        requires formed { IsFormed (D.decides self.old.decider) self.old.day.files client call }
         requires client { client < 64 }
         requires countable { self.old.day.calls + 1 < 2 ^ 64 }
         ensures reply { IfOk result (λ acted. acted.reply ≡ (Serial.answer_on (D.decides self.old.decider) self.old.day client call).reply) }
@@ -114,9 +116,7 @@ impl<'d, D: Decider> Desk<'d, D> {
             .keeper
             .call(alloc, client, mark, call, number, &mut asker)?;
         self.calls += 1;
-        if is_denied(&reply) {
-            self.denied += 1;
-        }
+        self.denied = counted(self.denied, &reply);
         Ok(Acted { reply, number })
     }
 
@@ -229,11 +229,13 @@ fn update_counted<D: Decider, L: Ledger>(
     keeper.update(u64::from(k), &mut steps)
 }
 
-fn is_denied(reply: &FileReply) -> bool
-    ensures { result ≡ is_some (denial_of reply.now) }
+/// A count of denied calls, with this reply.
+fn counted(denied: u64, reply: &FileReply) -> u64
+    requires { denied + 1 < 2 ^ 64 }
+    ensures { result ≡ Serial.counted_denial (denial_of reply.now) denied }
 {
     match reply {
-        FileReply::Denied { .. } => true,
-        _ => false,
+        FileReply::Denied { .. } => denied + 1,
+        _ => denied,
     }
 }

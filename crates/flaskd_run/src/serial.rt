@@ -1,11 +1,13 @@
 //! The lines of a session, run in the text's order on one thread.
+//!
+//! Contexts are printed by a client's call alone. The other lines print the same on any contexts, so their clauses name none.
 
-ghost use Rattle.std.specs.Prelude.{◌≡◌, ◌+◌, ◌<◌, ◌≤◌, ◌^◌, ◌++◌, [], length, map, All, Err, IfOk, IfErr, OnOk, OnErr};
+ghost use Rattle.std.specs.Prelude.{◌≡◌, ◌+◌, ◌<◌, ◌≤◌, ◌^◌, ◌++◌, [], ℕ, length, map, unwrap_or, All, Err, IsTrue, IfOk, IfErr, OnOk, OnErr};
 ghost use Rattle.flask_io.specs.Streams.{Adds, HasCause};
-ghost use Rattle.file_manager.specs.Formed.{IsCall};
-ghost use Rattle.file_manager.specs.Plain.{IsOpening};
-ghost use Rattle.file_manager.specs.declared.opening.Node.{Node};
-ghost use Rattle.session_text.specs.Sessions.{IsSession, IsRun};
+ghost use Rattle.file_calls.specs.Formed.{IsCall};
+ghost use Rattle.file_calls.specs.Openings.{AreNodes, IsOpening};
+ghost use Rattle.file_calls.specs.declared.opening.Node.{Node};
+ghost use Rattle.session_text.specs.Sessions.{IsSession, IsDeclared, IsRun, IsSidOf};
 ghost use Rattle.session_text.specs.declared.session.Run.{Run};
 ghost use Rattle.session_text.specs.declared.session.ClientLine.{ClientLine};
 ghost use Rattle.flaskd_run.specs.Serial;
@@ -19,9 +21,9 @@ use crate::texts::{
 };
 use crate::writing::{WriteFault, write_line};
 use access_vectors::Decider;
-use file_manager::{FileCall, FileOpening, Node};
+use file_calls::{FileCall, FileOpening, Node};
 use flask_io::Sink;
-use flask_sid::{Memory, Piece, Rows, Sid};
+use flask_sid::{Memory, Piece, Rows, Sid, SidTable};
 use manager_history::NotifyFault;
 use session_text::{ClientLine, Run, RunLine, SessionParts};
 use std::alloc::Global;
@@ -42,19 +44,21 @@ impl From<Memory> for RunStop {
     }
 }
 
-/// What the file manager is opened with: a client acts as its context, and the root has the first context.
+/// What the file manager is opened with: a client acts as its context, and the root has the context that is given it, or
+/// else the first one.
 fn opening_of(
     alloc: Global,
+    root: Option<Sid>,
     nodes: Rows<Node>,
     clients: &[ClientLine],
 ) -> Result<FileOpening, Memory>
     ensures { IfOk result (λ opening. opening
-        ≡ record { clients = map (λ (client : ClientLine). client.sid) clients.now; root = 1; nodes = nodes }) }
+        ≡ record { clients = map (λ (client : ClientLine). client.sid) clients.now; root = unwrap_or root 1; nodes = nodes }) }
 {
     let sids = sids_of(alloc, clients)?;
     Ok(FileOpening {
         clients: sids,
-        root: first_sid(),
+        root: root.unwrap_or(first_sid()),
         nodes,
     })
 }
@@ -86,6 +90,7 @@ fn name_of(clients: &[ClientLine], client: u8) -> &[u8]
 fn call_line<D: Decider>(
     alloc: Global,
     desk: &mut Desk<'_, D>,
+    contexts: &SidTable,
     clients: &[ClientLine],
     line: u32,
     client: u8,
@@ -97,15 +102,16 @@ fn call_line<D: Decider>(
     requires few { length clients.now ≤ 62 }
     requires opening { length desk.old.day.files.opening.clients ≡ length clients.now }
     requires formed { IsCall call }
+    requires declared { IsDeclared (λ sid. IsTrue ((D.decides desk.old.decider).known sid)) (length clients.now) call }
     requires countable { desk.old.day.calls + 1 < 2 ^ 64 }
-    ensures text { OnOk result (out.new ≡ Serial.line_text (D.decides desk.old.decider) clients.now desk.old.day line (Run.File client call)) }
+    ensures text { OnOk result (out.new ≡ Serial.line_text contexts.now (D.decides desk.old.decider) clients.now desk.old.day line (Run.File client call)) }
     ensures day { OnOk result (desk.new.day ≡ Serial.day_after (D.decides desk.old.decider) desk.old.day (Run.File client call)) }
     ensures opening { desk.new.day.files.opening ≡ desk.old.day.files.opening }
     ensures decider { desk.new.decider ≡ desk.old.decider }
 {
     let acted = desk.call(alloc, line, client, call)?;
     put_client(out, line, name_of(clients, client), acted.number)?;
-    put_reply(out, &acted.reply)?;
+    put_reply(out, contexts, &acted.reply)?;
     out.extend(b"\n")
 }
 
@@ -120,7 +126,7 @@ fn begin_line<D: Decider>(
     requires out { out.old ≡ [] }
     requires client { client < length clients.now }
     requires few { length clients.now ≤ 62 }
-    ensures text { OnOk result (out.new ≡ Serial.line_text (D.decides desk.old.decider) clients.now desk.old.day line (Run.Begin client)) }
+    ensures text { OnOk result (out.new ≡ Serial.line_text [] (D.decides desk.old.decider) clients.now desk.old.day line (Run.Begin client)) }
     ensures day { OnOk result (desk.new.day ≡ Serial.day_after (D.decides desk.old.decider) desk.old.day (Run.Begin client)) }
     ensures opening { desk.new.day.files.opening ≡ desk.old.day.files.opening }
     ensures decider { desk.new.decider ≡ desk.old.decider }
@@ -142,7 +148,7 @@ fn end_line<D: Decider>(
     requires out { out.old ≡ [] }
     requires client { client < length clients.now }
     requires few { length clients.now ≤ 62 }
-    ensures text { OnOk result (out.new ≡ Serial.line_text (D.decides desk.old.decider) clients.now desk.old.day line (Run.End client)) }
+    ensures text { OnOk result (out.new ≡ Serial.line_text [] (D.decides desk.old.decider) clients.now desk.old.day line (Run.End client)) }
     ensures day { OnOk result (desk.new.day ≡ Serial.day_after (D.decides desk.old.decider) desk.old.day (Run.End client)) }
     ensures opening { desk.new.day.files.opening ≡ desk.old.day.files.opening }
     ensures decider { desk.new.decider ≡ desk.old.decider }
@@ -163,7 +169,7 @@ fn notify_line<D: Decider>(
     out: &mut Piece,
 ) -> Result<(), Memory>
     requires out { out.old ≡ [] }
-    ensures text { OnOk result (out.new ≡ Serial.line_text (D.decides desk.old.decider) clients.now desk.old.day line (Run.Notify ver)) }
+    ensures text { OnOk result (out.new ≡ Serial.line_text [] (D.decides desk.old.decider) clients.now desk.old.day line (Run.Notify ver)) }
     ensures day { OnOk result (desk.new.day ≡ Serial.day_after (D.decides desk.old.decider) desk.old.day (Run.Notify ver)) }
     ensures opening { desk.new.day.files.opening ≡ desk.old.day.files.opening }
     ensures decider { desk.new.decider ≡ desk.old.decider }
@@ -186,7 +192,7 @@ fn update_line<D: Decider>(
     out: &mut Piece,
 ) -> Result<(), Memory>
     requires out { out.old ≡ [] }
-    ensures text { OnOk result (out.new ≡ Serial.line_text (D.decides desk.old.decider) clients.now desk.old.day line (Run.Update k)) }
+    ensures text { OnOk result (out.new ≡ Serial.line_text [] (D.decides desk.old.decider) clients.now desk.old.day line (Run.Update k)) }
     ensures day { OnOk result (desk.new.day ≡ Serial.day_after (D.decides desk.old.decider) desk.old.day (Run.Update k)) }
     ensures opening { desk.new.day.files.opening ≡ desk.old.day.files.opening }
     ensures decider { desk.new.decider ≡ desk.old.decider }
@@ -206,7 +212,7 @@ fn ack_line<D: Decider>(
 ) -> Result<(), Memory>
     requires out { out.old ≡ [] }
     requires countable { desk.old.day.changes + 1 < 2 ^ 64 }
-    ensures text { OnOk result (out.new ≡ Serial.line_text (D.decides desk.old.decider) clients.now desk.old.day line Run.Ack) }
+    ensures text { OnOk result (out.new ≡ Serial.line_text [] (D.decides desk.old.decider) clients.now desk.old.day line Run.Ack) }
     ensures day { OnOk result (desk.new.day ≡ Serial.day_after (D.decides desk.old.decider) desk.old.day Run.Ack) }
     ensures opening { desk.new.day.files.opening ≡ desk.old.day.files.opening }
     ensures decider { desk.new.decider ≡ desk.old.decider }
@@ -221,24 +227,27 @@ fn ack_line<D: Decider>(
 fn run_line<D: Decider>(
     alloc: Global,
     desk: &mut Desk<'_, D>,
+    contexts: &SidTable,
     clients: &[ClientLine],
     line: RunLine,
     out: &mut Piece,
 ) -> Result<(), Memory>
     requires out { out.old ≡ [] }
-    requires formed { IsRun (length clients.now) line.run }
+    requires formed { IsRun (λ sid. IsTrue ((D.decides desk.old.decider).known sid)) (length clients.now) line.run }
     requires few { length clients.now ≤ 62 }
     requires opening { length desk.old.day.files.opening.clients ≡ length clients.now }
     requires calls { desk.old.day.calls + 1 < 2 ^ 64 }
     requires changes { desk.old.day.changes + 1 < 2 ^ 64 }
-    ensures text { OnOk result (out.new ≡ Serial.line_text (D.decides desk.old.decider) clients.now desk.old.day line.line line.run) }
+    ensures text { OnOk result (out.new ≡ Serial.line_text contexts.now (D.decides desk.old.decider) clients.now desk.old.day line.line line.run) }
     ensures day { OnOk result (desk.new.day ≡ Serial.day_after (D.decides desk.old.decider) desk.old.day line.run) }
     ensures opening { desk.new.day.files.opening ≡ desk.old.day.files.opening }
     ensures decider { desk.new.decider ≡ desk.old.decider }
 {
     let RunLine { line, run } = line;
     match run {
-        Run::File { client, call } => call_line(alloc, desk, clients, line, client, call, out),
+        Run::File { client, call } => {
+            call_line(alloc, desk, contexts, clients, line, client, call, out)
+        }
         Run::Begin { client } => begin_line(desk, clients, line, client, out),
         Run::End { client } => end_line(desk, clients, line, client, out),
         Run::Notify { ver } => notify_line(alloc, desk, clients, line, ver, out),
@@ -251,25 +260,26 @@ fn run_line<D: Decider>(
 fn run_lines<D: Decider, K: Sink>(
     alloc: Global,
     desk: &mut Desk<'_, D>,
+    contexts: &SidTable,
     clients: &[ClientLine],
     lines: Vec<RunLine>,
     sink: &mut K,
 ) -> Result<(), RunStop>
-    requires formed { All (λ line. IsRun (length clients.now) line.run) lines.items }
+    requires formed { All (λ line. IsRun (λ sid. IsTrue ((D.decides desk.old.decider).known sid)) (length clients.now) line.run) lines.items }
     requires few { length clients.now ≤ 62 }
     requires opening { length desk.old.day.files.opening.clients ≡ length clients.now }
     requires calls { desk.old.day.calls ≡ 0 }
     requires changes { desk.old.day.changes ≡ 0 }
     ensures ok { OnOk result (Adds (K.written sink.old) (K.written sink.new)
-        (Serial.lines_text (D.decides desk.old.decider) clients.now desk.old.day lines.items)) }
+        (Serial.lines_text contexts.now (D.decides desk.old.decider) clients.now desk.old.day lines.items)) }
     ensures err { OnErr result (AddsFront (K.written sink.old) (K.written sink.new)
-        (Serial.lines_text (D.decides desk.old.decider) clients.now desk.old.day lines.items)) }
+        (Serial.lines_text contexts.now (D.decides desk.old.decider) clients.now desk.old.day lines.items)) }
     ensures cause { HasCause (K.faults sink.old) (K.faults sink.new) (result ≡ Err RunStop.WriteFault) }
 {
     let mut out = Piece::new(alloc);
     'lines: for line in lines {
         out.clear();
-        run_line(alloc, desk, clients, line, &mut out)?;
+        run_line(alloc, desk, contexts, clients, line, &mut out)?;
         put_line(sink, &out)?;
     }
     out.clear();
@@ -297,49 +307,56 @@ fn run_opened<D: Decider, K: Sink>(
     alloc: Global,
     decider: &D,
     opening: FileOpening,
+    contexts: &SidTable,
     clients: &[ClientLine],
     lines: Vec<RunLine>,
     sink: &mut K,
 ) -> Result<(), RunStop>
     requires opening { IsOpening (D.decides decider.now) opening }
+    requires nodes { AreNodes opening.nodes }
     requires places { length opening.clients ≡ length clients.now }
     requires few { length clients.now ≤ 62 }
-    requires formed { All (λ line. IsRun (length clients.now) line.run) lines.items }
+    requires formed { All (λ line. IsRun (λ sid. IsTrue ((D.decides decider.now).known sid)) (length clients.now) line.run) lines.items }
     ensures ok { OnOk result (Adds (K.written sink.old) (K.written sink.new)
-        (Serial.lines_text (D.decides decider.now) clients.now (Serial.morning_of opening) lines.items)) }
+        (Serial.lines_text contexts.now (D.decides decider.now) clients.now (Serial.morning_of opening) lines.items)) }
     ensures err { OnErr result (AddsFront (K.written sink.old) (K.written sink.new)
-        (Serial.lines_text (D.decides decider.now) clients.now (Serial.morning_of opening) lines.items)) }
+        (Serial.lines_text contexts.now (D.decides decider.now) clients.now (Serial.morning_of opening) lines.items)) }
     ensures cause { HasCause (K.faults sink.old) (K.faults sink.new) (result ≡ Err RunStop.WriteFault) }
 {
     let mut desk = Desk::new(alloc, decider, opening)?;
-    run_lines(alloc, &mut desk, clients, lines, sink)
+    run_lines(alloc, &mut desk, contexts, clients, lines, sink)
 }
 
-/// Runs a session on a decider, and writes its text. Where it stops before, a front of the text was written.
+/// Runs a session on a decider, whose identifiers stand for these contexts, and writes its text. Where it stops before, a
+/// front of the text was written.
 #[tactic(auto, unfolding(crate::specs::Serial::text_on))]
 pub fn serial<D: Decider, K: Sink>(
     alloc: Global,
     session: SessionParts,
     decider: &D,
+    contexts: &SidTable,
     sink: &mut K,
 ) -> Result<(), RunStop>
     requires session { IsSession session }
     requires opening { IsOpening (D.decides decider.now) (Serial.opening_of session) }
-    ensures ok { OnOk result (Adds (K.written sink.old) (K.written sink.new) (Serial.text_on (D.decides decider.now) session)) }
-    ensures err { OnErr result (AddsFront (K.written sink.old) (K.written sink.new) (Serial.text_on (D.decides decider.now) session)) }
+    requires known { (sid : ℕ) → IsSidOf session.policy.contexts sid → IsTrue ((D.decides decider.now).known sid) }
+    ensures ok { OnOk result (Adds (K.written sink.old) (K.written sink.new) (Serial.text_on contexts.now (D.decides decider.now) session)) }
+    ensures err { OnErr result (AddsFront (K.written sink.old) (K.written sink.new) (Serial.text_on contexts.now (D.decides decider.now) session)) }
     ensures cause { HasCause (K.faults sink.old) (K.faults sink.new) (result ≡ Err RunStop.WriteFault) }
 {
     let SessionParts {
         policy: _,
+        root,
         nodes,
         clients,
         lines,
     } = session;
-    let opening = opening_of(alloc, nodes, clients.as_slice())?;
+    let opening = opening_of(alloc, root, nodes, clients.as_slice())?;
     run_opened(
         alloc,
         decider,
         opening,
+        contexts,
         clients.as_slice(),
         lines.into_vec(),
         sink,

@@ -1,28 +1,88 @@
 //! What a run prints, put into a line.
 
 ghost use Rattle.std.specs.Prelude.{◌≡◌, ◌++◌, OnOk, codes, decimal};
+ghost use Rattle.policy_versions.specs.Judging.{context_with};
 ghost use Rattle.flaskd_run.specs.Texts;
 
 use access_vectors::{Perm, class_name, perm_name};
-use file_manager::FileReply;
-use flask_sid::{Memory, Piece};
+use file_calls::FileReply;
+use flask_sid::{Context, Memory, Piece, Sid, SidTable};
 use manager_history::{Ack, NotifyFault};
 use text_lines::put_number;
 
-/// Puts a reply of the file manager.
-pub fn put_reply(out: &mut Piece, reply: &FileReply) -> Result<(), Memory>
-    ensures { OnOk result (out.new ≡ out.old ++ Texts.reply_text reply.now) }
+/// Puts a reply of the file manager, whose labels are identifiers of these contexts.
+pub fn put_reply(out: &mut Piece, contexts: &SidTable, reply: &FileReply) -> Result<(), Memory>
+    ensures { OnOk result (out.new ≡ out.old ++ Texts.reply_text contexts.now reply.now) }
 {
     match reply {
         FileReply::Done => out.extend(b"done"),
         FileReply::Bytes(bytes) => put_data(out, bytes.as_bytes()),
+        FileReply::Names(names) => put_names(out, names.as_slice()),
+        FileReply::Stat { sid, number } => put_stat(out, contexts, *sid, *number),
         FileReply::Denied { perm, policy: _ } => put_denial(out, *perm),
         FileReply::NotFound => out.extend(b"notfound"),
+        FileReply::NotDir => out.extend(b"notdir"),
         FileReply::IsDir => out.extend(b"isdir"),
+        FileReply::Exists => out.extend(b"exists"),
+        FileReply::NotEmpty => out.extend(b"notempty"),
         FileReply::BadSlot => out.extend(b"badslot"),
         FileReply::SlotUsed => out.extend(b"slotused"),
         FileReply::BadMode => out.extend(b"badmode"),
+        FileReply::TooBig => out.extend(b"toobig"),
+        FileReply::TooMany => out.extend(b"toomany"),
     }
+}
+
+/// Puts names that were listed: how many, and then each behind a space.
+fn put_names(out: &mut Piece, names: &[Piece]) -> Result<(), Memory>
+    ensures { OnOk result (out.new ≡ out.old ++ Texts.names_text names.now) }
+{
+    out.extend(b"names ")?;
+    put_number(out, names.len() as u64)?;
+    put_behind_spaces(out, names)
+}
+
+fn put_behind_spaces(out: &mut Piece, names: &[Piece]) -> Result<(), Memory>
+    ensures { OnOk result (out.new ≡ out.old ++ Texts.behind_spaces names.now) }
+{
+    match names {
+        [] => Ok(()),
+        [name, rest @ ..] => {
+            out.extend(b" ")?;
+            out.extend(name.as_bytes())?;
+            put_behind_spaces(out, rest)
+        }
+    }
+}
+
+/// Puts the context of a label, and a number.
+fn put_stat(out: &mut Piece, contexts: &SidTable, sid: Sid, number: u64) -> Result<(), Memory>
+    ensures { OnOk result (out.new ≡ out.old ++ Texts.stat_text (context_with contexts.now sid) number) }
+{
+    out.extend(b"stat ")?;
+    put_label(out, contexts, sid)?;
+    out.extend(b" ")?;
+    put_number(out, number)
+}
+
+/// Puts the context of a label. The definition gives a number that was not given a context of empty names.
+fn put_label(out: &mut Piece, contexts: &SidTable, sid: Sid) -> Result<(), Memory>
+    ensures { OnOk result (out.new ≡ out.old ++ Texts.context_text (context_with contexts.now sid)) }
+{
+    match contexts.context(sid) {
+        None => out.extend(b"::"),
+        Some(context) => put_context(out, context),
+    }
+}
+
+fn put_context(out: &mut Piece, context: &Context) -> Result<(), Memory>
+    ensures { OnOk result (out.new ≡ out.old ++ Texts.context_text context.now) }
+{
+    out.extend(context.user.as_bytes())?;
+    out.extend(b":")?;
+    out.extend(context.role.as_bytes())?;
+    out.extend(b":")?;
+    out.extend(context.kind.as_bytes())
 }
 
 fn put_data(out: &mut Piece, bytes: &[u8]) -> Result<(), Memory>

@@ -81,7 +81,7 @@ fn run<K: Sink>(alloc: Global, session: Session, sink: &mut K) -> Status
     let policy = parts.policy.parts();
     match compile(alloc, &parts.policy) {
         Err(fault) => refused(alloc, policy, fault),
-        Ok(catalogue) => match serial(alloc, parts, &catalogue, sink) {
+        Ok(catalogue) => match serial(alloc, parts, &catalogue, catalogue.sids(), sink) {
             Ok(()) => Status::Ok,
             Err(RunStop::WriteFault) => Status::WriteFault,
             Err(RunStop::Memory) => Status::Memory,

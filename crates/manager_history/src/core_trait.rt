@@ -55,8 +55,9 @@ pub trait Core {
     /// The policy number that each used slot follows.
     ghost follows: { Self → Follows };
 
-    /// What the slots follow after a call: a call fills a slot, frees slots or sets the label of an object.
-    ghost followed: { State → ℕ → Self.Call → ℕ → Self.Reply → Follows → Follows };
+    /// What the slots follow after a caller's call under a policy number and its version, which got this reply: a call
+    /// fills a slot, frees slots or sets the label of an object.
+    ghost followed: { Decisions → State → ℕ → Self.Call → ℕ → ℕ → Self.Reply → Follows → Follows };
 
     /// The places of the stale slots, least client and then least slot first.
     ghost stale: { Self → List ℕ };
@@ -89,7 +90,7 @@ pub trait Core {
         ensures asked { let answer = plain (A.decides asker.old) (state self.old) caller call.now number (A.version asker.old) in
             OnOk result (asked.new ≡ answer.asked) }
         ensures follows { IfOk result (λ replies. follows self.new
-            ≡ followed (state self.old) caller call.now number replies.0 (follows self.old)) }
+            ≡ followed (A.decides asker.old) (state self.old) caller call.now number (A.version asker.old) replies.0 (follows self.old)) }
         ensures asks_nothing { IfOk result (λ replies. is_some (denial_of replies.0) ≡ false
             → is_use_following (use_of caller call.now) (follows self.old) number ≡ true
             → A.asks asker.new ≡ A.asks asker.old) }

@@ -110,7 +110,8 @@ impl<'d, C: Core, D: Decider> Keeper<'d, C, D> {
         ensures state { let at = moment (C.state self.old.core) self.old.phase in
             OnOk result (C.state self.new.core ≡ (answer_at C.plain (D.decides self.old.decider) at caller call number).state) }
         ensures follows { IfOk result (λ reply. C.follows self.new.core
-            ≡ C.followed (C.state self.old.core) caller call number reply (C.follows self.old.core)) }
+            ≡ C.followed (D.decides self.old.decider) (C.state self.old.core) caller call number (version_at self.old.phase number) reply
+            (C.follows self.old.core)) }
         ensures asks_nothing { IfOk result (λ reply. is_some (C.denial_of reply) ≡ false
             → is_use_following (C.use_of caller call) (C.follows self.old.core) number ≡ true
             → A.asks asker.new ≡ A.asks asker.old) }

@@ -96,7 +96,7 @@ impl Core for Reader {
 
     ghost follows = { λ reader. no_follows };
 
-    ghost followed = { λ last caller sid number reply follows. no_follows };
+    ghost followed = { λ d last caller sid number version reply follows. no_follows };
 
     ghost stale = { λ reader. [] };
 

@@ -1,24 +1,21 @@
 -- What the words of a line give of a call's arguments, and what its limits make of them.
-use Rattle.std.proofs.Common.{◌≡◌, ℕ, Bool, true, false, List, [], ◌∷◌, length, All, Option, None, Some, refl, arith}
-use Rattle.std.specs.Prelude.{IfSome, if◌then◌else◌, ◌==◌, ◌&&◌, ◌||◌, not, nat_lt, ◌≢◌, codes}
-use Rattle.std.specs.List.{list_all, list_any}
+use Rattle.std.proofs.Common.{◌≡◌, ℕ, Bool, true, false, List, [], ◌∷◌, Option, None, Some, Ok, Err, Result, refl, arith}
+use Rattle.std.specs.Prelude.{IfSome, if◌then◌else◌, ◌==◌, ◌&&◌, not, nat_lt, codes}
+use Rattle.std.specs.List.{list_all, filter, slice_split}
 use Rattle.std.specs.Str.{bytes_eq}
 use Rattle.std.specs.Option.{option_or}
-use Rattle.std.proofs.lemmas.Bool.Decides.{nat_tests}
-use Rattle.std.proofs.lemmas.List.Elements.{All-cons, All-nil}
-use Rattle.std.proofs.lemmas.List.Sums.{AllPass-from_list_all}
-use Rattle.std.proofs.lemmas.Slice.Eq.{bytes_eq-Decides}
-use Rattle.flask_sid.specs.Names.{is_long, is_name_form}
+use Rattle.flask_sid.specs.Names.{is_name_form}
+use Rattle.text_lines.specs.Lines.{is_filled, is_comment, is_gap, may_stand, line_limit, line_words, said_words, words_of}
+use Rattle.text_lines.specs.declared.fault.FaultKind.{FaultKind}
+use Rattle.text_lines.specs.declared.fault.FaultKind.TheVariants.{Syntax, Limit}
 use Rattle.text_lines.specs.Numerals.{numeral_of}
 use Rattle.text_lines.specs.OptionSteps.{◌>>=◌}
-use Rattle.file_manager.specs.Formed.{IsCall, IsFileMode, IsPart, is_path_byte}
-use Rattle.file_manager.specs.declared.call.FileCall.TheVariants.{OpenFile}
-use Rattle.session_text.specs.Arguments.{only_word, only_number, only_context, only_path, only_entry, number_and_word}
-use Rattle.session_text.specs.PathForms.{path_form, is_part_form, is_long_path, parts_behind}
+use Rattle.file_calls.specs.Formed.{IsFileMode}
+use Rattle.session_text.specs.Arguments.{only_word, only_number, only_context, only_path, only_entry, number_and_word, is_root}
+use Rattle.session_text.specs.PathForms.{path_form, is_part_form, parts_behind}
 use Rattle.session_text.specs.CallForms.{mode_of, open_form, read_form, write_form, give_form, list_form, relabel_form, slot_call_form, path_call_form, file_form, process_form, port_form}
-use Rattle.session_text.specs.Ranges.{is_past_file, is_past_slot}
 use Rattle.session_text.specs.RunForms.{manager_of, call_form, asked_form, client_line_form, admin_form, run_form, alone}
-use Rattle.session_text.specs.ArgumentForms.{IsFileForm, IsCallForm, IsRunForm}
+use Rattle.session_text.specs.ArgumentForms.{IsPathForm, IsEntryForm, IsFileForm, IsCallForm, IsRunForm}
 use Rattle.session_text.specs.declared.call_forms.FileForm.TheVariants as file
 use Rattle.session_text.specs.declared.run_forms.Manager.{Manager}
 use Rattle.session_text.specs.declared.run_forms.Manager.TheVariants.{File, Process, Port}
@@ -35,6 +32,10 @@ by_step : {A X : Type 0} (P : X → Type 0) (found : Option A) (next : A → Opt
 by_step P None next each = tt
 by_step P (Some a) next each = each a refl
 
+-- what is found is what was given
+if_found : {A : Type 0} (P : A → Type 0) (found : Option A) (a : A) → IfSome found P → found ≡ Some a → P a
+if_found P found a given is = rw is at given
+
 mode_given : (word : List ℕ) → IfSome (mode_of word) IsFileMode
 unfolding mode_of
 mode_given word =
@@ -47,7 +48,7 @@ mode_given word =
     (by_test IsFileMode (bytes_eq word (codes "rwa")) (Some 7) None (omega arith, omega arith) tt))))))
 
 -- the parts of a path have their form
-parts_given : (word : List ℕ) → IfSome (path_form word) (λ parts. list_all is_part_form parts ≡ true)
+parts_given : (word : List ℕ) → IfSome (path_form word) IsPathForm
 unfolding path_form
 parts_given [] = tt
 parts_given (b ∷ bs) =
@@ -59,9 +60,48 @@ parts_given (b ∷ bs) =
       | false ↦ tt
     ]
 
--- what is found is what was given
-if_found : {A : Type 0} (P : A → Type 0) (found : Option A) (a : A) → IfSome found P → found ≡ Some a → P a
-if_found P found a given is = rw is at given
+-- a path alone
+path_given : (words : List (List ℕ)) → IfSome (only_path words) IsPathForm
+unfolding only_path
+path_given words = by_step IsPathForm (only_word words) _ (λ word said. parts_given word)
+
+-- a path alone that is not the root's
+below_root : (path : List (List ℕ)) → IsPathForm path → IfSome (if is_root path then None else Some path) IsEntryForm
+below_root [] formed = tt
+below_root (part ∷ parts) formed = (refl, formed)
+
+entry_given : (words : List (List ℕ)) → IfSome (only_entry words) IsEntryForm
+unfolding only_entry
+entry_given words =
+    by_step IsEntryForm (only_path words) _ (λ path said. below_root path (if_found IsPathForm (only_path words) path (path_given words) said))
+
+-- each of these words has bytes
+abbrev AreFilled : List (List ℕ) → Type 0
+AreFilled words = list_all is_filled words ≡ true
+
+-- both of two
+pub both : (a b : Bool) → (a && b) ≡ true → (a ≡ true) × (b ≡ true)
+both true b is = (refl, is)
+both false b is = cc
+
+filled_behind : (word : List ℕ) (words : List (List ℕ)) → AreFilled (word ∷ words) → AreFilled words
+filled_behind word words filled = (both (is_filled word) (list_all is_filled words) filled).1
+
+-- a word alone
+word_filled : (words : List (List ℕ)) → AreFilled words → IfSome (only_word words) (λ word. is_filled word ≡ true)
+unfolding only_word
+word_filled [] filled = tt
+word_filled (word ∷ []) filled = (both (is_filled word) true filled).0
+word_filled (word ∷ next ∷ words) filled = tt
+
+-- a word behind a numeral
+second_filled : (words : List (List ℕ)) → AreFilled words → IfSome (number_and_word words) (λ said. is_filled said.1 ≡ true)
+unfolding number_and_word
+second_filled [] filled = tt
+second_filled (first ∷ words) filled =
+    by_step (λ said. is_filled said.1 ≡ true) (only_word words) _ (λ bytes said.
+    by_step (λ (said : ℕ × List ℕ). is_filled said.1 ≡ true) (numeral_of first) (λ number. Some (number, bytes)) (λ number is.
+    if_found (λ word. is_filled word ≡ true) (only_word words) bytes (word_filled words (filled_behind first words filled)) said))
 
 -- an open has its forms
 open_given : (words : List (List ℕ)) → IfSome (open_form words) IsFileForm
@@ -73,7 +113,7 @@ open_given (slot ∷ path ∷ words) =
     by_step IsFileForm (numeral_of slot) _ (λ number slot_is.
     by_step IsFileForm (path_form path) _ (λ parts path_is.
     by_step IsFileForm (mode_of mode) (λ bits. Some (file.Open number parts bits)) (λ bits mode_is.
-    (if_found (λ ps. list_all is_part_form ps ≡ true) (path_form path) parts (parts_given path) path_is, if_found IsFileMode (mode_of mode) bits (mode_given mode) mode_is)))))
+    (if_found IsPathForm (path_form path) parts (parts_given path) path_is, if_found IsFileMode (mode_of mode) bits (mode_given mode) mode_is)))))
 
 read_given : (words : List (List ℕ)) → IfSome (read_form words) IsFileForm
 unfolding read_form IsFileForm
@@ -84,14 +124,15 @@ read_given (slot ∷ offset ∷ words) =
     by_step IsFileForm (numeral_of slot) _ (λ number slot_is.
     by_step IsFileForm (numeral_of offset) _ (λ start offset_is. tt)))
 
-write_given : (words : List (List ℕ)) → IfSome (write_form words) IsFileForm
+write_given : (words : List (List ℕ)) → AreFilled words → IfSome (write_form words) IsFileForm
 unfolding write_form IsFileForm
-write_given [] = tt
-write_given (slot ∷ []) = tt
-write_given (slot ∷ offset ∷ words) =
+write_given [] filled = tt
+write_given (slot ∷ []) filled = tt
+write_given (slot ∷ offset ∷ words) filled =
     by_step IsFileForm (only_word words) _ (λ bytes said.
     by_step IsFileForm (numeral_of slot) _ (λ number slot_is.
-    by_step IsFileForm (numeral_of offset) _ (λ start offset_is. tt)))
+    by_step IsFileForm (numeral_of offset) (λ start. Some (file.Write number start bytes)) (λ start offset_is.
+    if_found (λ word. is_filled word ≡ true) (only_word words) bytes (word_filled words (filled_behind offset words (filled_behind slot (offset ∷ words) filled))) said)))
 
 give_given : (words : List (List ℕ)) → IfSome (give_form words) IsFileForm
 unfolding give_form IsFileForm
@@ -106,31 +147,40 @@ list_given : (words : List (List ℕ)) → IfSome (list_form words) IsFileForm
 unfolding list_form IsFileForm
 list_given [] = tt
 list_given (path ∷ words) =
-    by_step IsFileForm (only_number words) _ (λ skip said. by_step IsFileForm (path_form path) _ (λ parts path_is. tt))
+    by_step IsFileForm (only_number words) _ (λ skip said.
+    by_step IsFileForm (path_form path) (λ parts. Some (file.List parts skip)) (λ parts path_is.
+    if_found IsPathForm (path_form path) parts (parts_given path) path_is))
 
 relabel_given : (words : List (List ℕ)) → IfSome (relabel_form words) IsFileForm
 unfolding relabel_form IsFileForm
 relabel_given [] = tt
 relabel_given (path ∷ words) =
-    by_step IsFileForm (only_context words) _ (λ context said. by_step IsFileForm (path_form path) _ (λ parts path_is. tt))
+    by_step IsFileForm (only_context words) _ (λ context said.
+    by_step IsFileForm (path_form path) (λ parts. Some (file.Relabel parts context)) (λ parts path_is.
+    if_found IsPathForm (path_form path) parts (parts_given path) path_is))
 
-slot_call_given : (call : List ℕ) (words : List (List ℕ)) → IfSome (slot_call_form call words) IsFileForm
+slot_call_given : (call : List ℕ) (words : List (List ℕ)) → AreFilled words → IfSome (slot_call_form call words) IsFileForm
 unfolding slot_call_form IsFileForm
-slot_call_given call words =
+slot_call_given call words filled =
     by_test IsFileForm (bytes_eq call (codes "open")) _ _ (open_given words)
     (by_test IsFileForm (bytes_eq call (codes "read")) _ _ (read_given words)
-    (by_test IsFileForm (bytes_eq call (codes "write")) _ _ (write_given words)
-    (by_test IsFileForm (bytes_eq call (codes "append")) _ _ (by_step IsFileForm (number_and_word words) _ (λ said is. tt))
+    (by_test IsFileForm (bytes_eq call (codes "write")) _ _ (write_given words filled)
+    (by_test IsFileForm (bytes_eq call (codes "append")) _ _
+    (by_step IsFileForm (number_and_word words) (λ said. Some (file.Append said.0 said.1)) (λ said is. if_found (λ (pair : ℕ × List ℕ). is_filled pair.1 ≡ true) (number_and_word words) said (second_filled words filled) is))
     (by_test IsFileForm (bytes_eq call (codes "close")) _ _ (by_step IsFileForm (only_number words) _ (λ slot is. tt))
     (by_test IsFileForm (bytes_eq call (codes "give")) _ None (give_given words) tt)))))
 
 path_call_given : (call : List ℕ) (words : List (List ℕ)) → IfSome (path_call_form call words) IsFileForm
 unfolding path_call_form IsFileForm
 path_call_given call words =
-    by_test IsFileForm (bytes_eq call (codes "mkdir")) _ _ (by_step IsFileForm (only_entry words) _ (λ path is. tt))
-    (by_test IsFileForm (bytes_eq call (codes "create")) _ _ (by_step IsFileForm (only_entry words) _ (λ path is. tt))
-    (by_test IsFileForm (bytes_eq call (codes "unlink")) _ _ (by_step IsFileForm (only_entry words) _ (λ path is. tt))
-    (by_test IsFileForm (bytes_eq call (codes "stat")) _ _ (by_step IsFileForm (only_path words) _ (λ path is. tt))
+    by_test IsFileForm (bytes_eq call (codes "mkdir")) _ _
+    (by_step IsFileForm (only_entry words) (λ path. Some (file.Mkdir path)) (λ path is. if_found IsEntryForm (only_entry words) path (entry_given words) is))
+    (by_test IsFileForm (bytes_eq call (codes "create")) _ _
+    (by_step IsFileForm (only_entry words) (λ path. Some (file.Create path)) (λ path is. if_found IsEntryForm (only_entry words) path (entry_given words) is))
+    (by_test IsFileForm (bytes_eq call (codes "unlink")) _ _
+    (by_step IsFileForm (only_entry words) (λ path. Some (file.Unlink path)) (λ path is. if_found IsEntryForm (only_entry words) path (entry_given words) is))
+    (by_test IsFileForm (bytes_eq call (codes "stat")) _ _
+    (by_step IsFileForm (only_path words) (λ path. Some (file.Stat path)) (λ path is. if_found IsPathForm (only_path words) path (path_given words) is))
     (by_test IsFileForm (bytes_eq call (codes "list")) _ _ (list_given words)
     (by_test IsFileForm (bytes_eq call (codes "relabel")) _ None (relabel_given words) tt)))))
 
@@ -139,36 +189,36 @@ by_first : {X : Type 0} (P : X → Type 0) (x y : Option X) → IfSome x P → I
 by_first P None y here there = there
 by_first P (Some a) y here there = here
 
-file_given : (call : List ℕ) (words : List (List ℕ)) → IfSome (file_form call words) IsFileForm
+file_given : (call : List ℕ) (words : List (List ℕ)) → AreFilled words → IfSome (file_form call words) IsFileForm
 unfolding file_form
-file_given call words =
-    by_first IsFileForm (slot_call_form call words) (path_call_form call words) (slot_call_given call words) (path_call_given call words)
+file_given call words filled =
+    by_first IsFileForm (slot_call_form call words) (path_call_form call words) (slot_call_given call words filled) (path_call_given call words)
 
-call_given : (manager : Manager) (call : List ℕ) (words : List (List ℕ)) → IfSome (call_form manager call words) IsCallForm
+call_given : (manager : Manager) (call : List ℕ) (words : List (List ℕ)) → AreFilled words → IfSome (call_form manager call words) IsCallForm
 unfolding call_form IsCallForm
-call_given File call words =
-    by_step IsCallForm (file_form call words) _ (λ said is. if_found IsFileForm (file_form call words) said (file_given call words) is)
-call_given Process call words = by_step IsCallForm (process_form call words) _ (λ said is. tt)
-call_given Port call words = by_step IsCallForm (port_form call words) _ (λ said is. tt)
+call_given File call words filled =
+    by_step IsCallForm (file_form call words) _ (λ said is. if_found IsFileForm (file_form call words) said (file_given call words filled) is)
+call_given Process call words filled = by_step IsCallForm (process_form call words) _ (λ said is. tt)
+call_given Port call words filled = by_step IsCallForm (port_form call words) _ (λ said is. tt)
 
 -- a line that is alone
 alone_given : (words : List (List ℕ)) (said : RunForm) → IsRunForm said → IfSome (alone words said) IsRunForm
 alone_given [] said is = is
 alone_given (word ∷ words) said is = tt
 
-asked_given : (client : List ℕ) (manager : Manager) (call : List ℕ) (words : List (List ℕ)) → IfSome (asked_form client manager call words) IsRunForm
+asked_given : (client : List ℕ) (manager : Manager) (call : List ℕ) (words : List (List ℕ)) → AreFilled words → IfSome (asked_form client manager call words) IsRunForm
 unfolding asked_form IsRunForm
-asked_given client manager call words =
+asked_given client manager call words filled =
     by_test IsRunForm (bytes_eq call (codes "begin")) _ _ (alone_given words (form.Begin client manager) tt)
     (by_test IsRunForm (bytes_eq call (codes "end")) _ _ (alone_given words (form.End client manager) tt)
-    (by_step IsRunForm (call_form manager call words) _ (λ said is. if_found IsCallForm (call_form manager call words) said (call_given manager call words) is)))
+    (by_step IsRunForm (call_form manager call words) _ (λ said is. if_found IsCallForm (call_form manager call words) said (call_given manager call words filled) is)))
 
-client_line_given : (client : List ℕ) (words : List (List ℕ)) → IfSome (client_line_form client words) IsRunForm
+client_line_given : (client : List ℕ) (words : List (List ℕ)) → AreFilled words → IfSome (client_line_form client words) IsRunForm
 unfolding client_line_form
-client_line_given client [] = tt
-client_line_given client (word ∷ []) = tt
-client_line_given client (word ∷ call ∷ words) =
-    by_step IsRunForm (manager_of word) _ (λ manager is. asked_given client manager call words)
+client_line_given client [] filled = tt
+client_line_given client (word ∷ []) filled = tt
+client_line_given client (word ∷ call ∷ words) filled =
+    by_step IsRunForm (manager_of word) _ (λ manager is. asked_given client manager call words (filled_behind call words (filled_behind word (call ∷ words) filled)))
 
 admin_given : (words : List (List ℕ)) → IfSome (admin_form words) IsRunForm
 unfolding admin_form IsRunForm
@@ -179,57 +229,50 @@ admin_given (what ∷ words) =
     (by_test IsRunForm (bytes_eq what (codes "ack")) _ None (alone_given words form.Ack tt) tt))
 
 -- any line that runs
-run_given : (first : List ℕ) (words : List (List ℕ)) → IfSome (run_form first words) IsRunForm
+run_given : (first : List ℕ) (words : List (List ℕ)) → AreFilled words → IfSome (run_form first words) IsRunForm
 unfolding run_form
-run_given first words =
+run_given first words filled =
     by_test IsRunForm (bytes_eq first (codes "admin")) _ _ (admin_given words)
-    (by_test IsRunForm (is_name_form first) _ None (client_line_given first words) tt)
+    (by_test IsRunForm (is_name_form first) _ None (client_line_given first words filled) tt)
+
+-- words without fault, and the same ones
+abbrev no_fault : List (List ℕ) → Result (List (List ℕ)) FaultKind
+no_fault words = Ok words
+
+same_filled : (words others : List (List ℕ)) → no_fault words ≡ Ok others → AreFilled words → AreFilled others
+same_filled words others same filled = let is : words ≡ others = cc in rw (← is) filled
+
+-- the words of a line have bytes
+filter_filled : (words : List (List ℕ)) → AreFilled (filter is_filled words)
+filter_filled [] = refl
+filter_filled ([] ∷ words) = filter_filled words
+filter_filled ((b ∷ bs) ∷ words) = filter_filled words
+
+said_filled : (words : List (List ℕ)) → AreFilled words → AreFilled (said_words words)
+unfolding said_words
+said_filled [] filled = refl
+said_filled (first ∷ words) filled =
+    elim (is_comment first) as (λ (b : Bool). AreFilled (if b then [] else first ∷ words)) [
+      | true ↦ refl
+      | false ↦ filled
+    ]
+
+filled_words : (line : List ℕ) → AreFilled (said_words (words_of line))
+unfolding words_of
+filled_words line = said_filled (filter is_filled (slice_split is_gap line)) (filter_filled (slice_split is_gap line))
+
+line_filled : (n : ℕ) (line : List ℕ) (words : List (List ℕ)) → line_words n line ≡ Ok words → AreFilled words
+unfolding line_words
+line_filled n line words is =
+    elim (nat_lt line_limit n) as (λ (b : Bool). (if b then Err Limit else if not (list_all may_stand line) then Err Syntax else Ok (said_words (words_of line))) ≡ Ok words → AreFilled words) [
+      | true ↦ λ none. cc
+      | false ↦ elim (list_all may_stand line) as (λ (b : Bool). (if not b then Err Syntax else Ok (said_words (words_of line))) ≡ Ok words → AreFilled words) [
+        | true ↦ λ same. same_filled (said_words (words_of line)) words same (filled_words line)
+        | false ↦ λ none. cc
+      ]
+    ] is
 
 -- a line that runs has its forms
-pub run_formed : (first : List ℕ) (words : List (List ℕ)) (said : RunForm) → run_form first words ≡ Some said → IsRunForm said
-run_formed first words said is = if_found IsRunForm (run_form first words) said (run_given first words) is
-
--- neither of two
-neither : (a b : Bool) → (a || b) ≡ false → (a ≡ false) × (b ≡ false)
-neither true b is = cc
-neither false b is = (refl, is)
-
--- both of two
-both : (a b : Bool) → (a && b) ≡ true → (a ≡ true) × (b ≡ true)
-both true b is = (refl, is)
-both false b is = cc
-
--- a word that was found not to be another is not
-is_not : (word other : List ℕ) → not (bytes_eq word other) ≡ true → word ≢ other
-is_not word other is = λ same. grind (arith, bytes_eq-Decides)
-
--- a part that is not too long
-part_formed : (part : List ℕ) → is_part_form part ≡ true → is_long part ≡ false → IsPart part
-unfolding is_part_form is_long
-part_formed part formed short =
-    let dots = both _ (not (bytes_eq part (codes ".."))) formed in
-    let dot = both _ (not (bytes_eq part (codes "."))) dots.0 in
-    let bytes = both (nat_lt 0 (length part)) (list_all is_path_byte part) dot.0 in
-    record {
-      some = grind (arith, nat_tests);
-      short = grind (arith, nat_tests);
-      allowed = AllPass-from_list_all is_path_byte part bytes.1;
-      not_dot = is_not part (codes ".") dot.1;
-      not_dots = is_not part (codes "..") dots.1;
-    }
-
--- parts of which none is too long
-parts_formed : (parts : List (List ℕ)) → list_all is_part_form parts ≡ true → list_any is_long parts ≡ false → All IsPart parts
-parts_formed [] formed short = All-nil IsPart
-parts_formed (part ∷ parts) formed short =
-    let form = both (is_part_form part) (list_all is_part_form parts) formed in
-    let length = neither (is_long part) (list_any is_long parts) short in
-    All-cons IsPart part parts (part_formed part form.0 length.0) (parts_formed parts form.1 length.1)
-
--- an open of one name within its limits is one that a session may have
-pub open_formed : (slot mode : ℕ) (parts : List (List ℕ)) → is_past_file (file.Open slot parts mode) ≡ false → IsFileForm (file.Open slot parts mode) → (length parts == 1) ≡ true → IsCall (OpenFile slot parts mode)
-unfolding is_past_file is_long_path IsFileForm
-open_formed slot mode parts within (formed, is_mode) one =
-    let apart = neither (is_past_slot slot) _ within in
-    let short = neither (nat_lt 16 (length parts)) (list_any is_long parts) apart.1 in
-    (grind (arith, nat_tests), record { some = grind (arith, nat_tests); short = grind (arith, nat_tests); parts = parts_formed parts formed short.1 }, is_mode)
+pub run_formed : (n : ℕ) (line first : List ℕ) (words : List (List ℕ)) (said : RunForm) → line_words n line ≡ Ok (first ∷ words) → run_form first words ≡ Some said → IsRunForm said
+run_formed n line first words said line_is is =
+    if_found IsRunForm (run_form first words) said (run_given first words (filled_behind first words (line_filled n line (first ∷ words) line_is))) is

@@ -1,3 +1,4 @@
+pub mod CallLemmas
 pub mod FormedLemmas
 pub mod Growth
 pub mod ReadingLemmas

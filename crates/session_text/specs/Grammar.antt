@@ -1,6 +1,7 @@
 -- What a line of a session text asks of the lines above it, and what it adds to them.
-use Rattle.std.specs.Prelude.{ℕ, ◌+◌, Bool, true, false, ◌||◌, not, ◌==◌, nat_le, nat_lt, List, [], ◌∷◌, ◌++◌, length, replicate, slice_get, slice_set, Option, Some, None, is_some, unwrap_or, Result, Ok, Err, if◌then◌else◌, codes}
+use Rattle.std.specs.Prelude.{ℕ, ◌+◌, Bool, true, false, ◌||◌, not, ◌==◌, nat_le, nat_lt, List, [], ◌∷◌, ◌++◌, length, replicate, slice_get, slice_set, Option, Some, None, is_some, option_and_then, unwrap_or, Result, Ok, Err, if◌then◌else◌, codes}
 use Rattle.std.specs.List.{list_any, position}
+use Rattle.std.specs.Option.{option_or, option_map}
 use Rattle.std.specs.Str.{bytes_eq}
 use Rattle.flask_sid.specs.Names.{is_long}
 use Rattle.flask_sid.specs.Contexts.{is_long_context}
@@ -10,21 +11,24 @@ use Rattle.text_lines.specs.declared.fault.FaultKind.TheVariants.{Syntax, Order,
 use Rattle.text_lines.specs.ResultSteps.{◌>>=◌, found_or}
 use Rattle.policy_text.specs.declared.policy.ContextLine.{ContextLine}
 use Rattle.policy_text.specs.Above.{same_context}
-use Rattle.file_manager.specs.Paths.{same_path}
-use Rattle.file_manager.specs.declared.call.FileCall.{FileCall}
-use Rattle.file_manager.specs.declared.call.FileCall.TheVariants.{OpenFile, ReadFile}
+use Rattle.file_calls.specs.Openings.{has_node, is_parent_there}
+use Rattle.file_calls.specs.declared.call.FileCall.{FileCall}
+use Rattle.file_calls.specs.declared.call.FileCall.TheVariants as call
+use Rattle.file_calls.specs.declared.opening.Node.{Node}
 use Rattle.session_text.specs.PathForms.{is_long_path}
 use Rattle.session_text.specs.RunForms.{run_form}
 use Rattle.session_text.specs.Ranges.{is_long_data, is_past_place, is_past_call}
 use Rattle.session_text.specs.declared.call_forms.CallForm.{CallForm}
 use Rattle.session_text.specs.declared.call_forms.CallForm.TheVariants.{OfFile, OfProcess}
+use Rattle.session_text.specs.declared.call_forms.FileForm.{FileForm}
 use Rattle.session_text.specs.declared.call_forms.FileForm.TheVariants as file
 use Rattle.session_text.specs.declared.call_forms.ProcessForm.TheVariants as process
 use Rattle.session_text.specs.declared.run_forms.Manager.{Manager}
 use Rattle.session_text.specs.declared.run_forms.Manager.TheVariants as manager
 use Rattle.session_text.specs.declared.run_forms.RunForm.{RunForm}
 use Rattle.session_text.specs.declared.run_forms.RunForm.TheVariants as form
-use Rattle.file_manager.specs.declared.opening.Node.{Node}
+use Rattle.session_text.specs.declared.setup_forms.Initial.{Initial}
+use Rattle.session_text.specs.declared.setup_forms.Initial.TheVariants.{Root, Ports}
 use Rattle.session_text.specs.declared.session.ClientLine.{ClientLine}
 use Rattle.session_text.specs.declared.session.Run.{Run}
 use Rattle.session_text.specs.declared.session.Run.TheVariants.{File, Begin, End, Notify, Update, Ack}
@@ -43,19 +47,11 @@ sid_at at = if nat_lt at 4095 then Some (at + 1) else None
 
 -- the identifier of a declared context: its place among the context lines, from 1
 unfoldable pub context_sid : List ContextLine → ContextOf (List ℕ) → Option ℕ
-context_sid contexts context = sid_of_place (position (λ line. same_context line.context context) contexts)
-  where
-    sid_of_place : Option ℕ → Option ℕ
-    sid_of_place None = None
-    sid_of_place (Some at) = sid_at at
+context_sid contexts context = option_and_then sid_at (position (λ line. same_context line.context context) contexts)
 
 -- the number of a client
 unfoldable pub client_number : List ClientLine → List ℕ → Option ℕ
 client_number clients name = position (λ client. bytes_eq client.name name) clients
-
--- a node of that path is there
-unfoldable pub has_node : List Node → List (List ℕ) → Bool
-has_node nodes path = list_any (λ node. same_path node.path path) nodes
 
 -- a client of that name is there
 unfoldable pub has_client : List ClientLine → List ℕ → Bool
@@ -66,14 +62,14 @@ abbrev pub data_bytes : Option (List ℕ) → List ℕ
 data_bytes None = []
 data_bytes (Some bytes) = bytes
 
--- the root or a path in the root, which is the only directory
-abbrev pub is_below_root : List (List ℕ) → Bool
-is_below_root path = nat_le (length path) 1
+-- a session with the root's context
+abbrev pub with_root : ℕ → SessionParts → SessionParts
+with_root sid session = record session { root = Some sid }
 
--- a session with one file more
-abbrev pub with_file : List (List ℕ) → ℕ → List ℕ → SessionParts → SessionParts
-with_file path sid bytes session =
-    record session { nodes = session.nodes ++ record { path = path; sid = sid; bytes = Some bytes } ∷ [] }
+-- a session with one node more: a file with bytes, or a directory without
+abbrev pub with_node : List (List ℕ) → ℕ → Option (List ℕ) → SessionParts → SessionParts
+with_node path sid bytes session =
+    record session { nodes = session.nodes ++ record { path = path; sid = sid; bytes = bytes } ∷ [] }
 
 -- a session with one client more
 abbrev pub with_client : List ℕ → ℕ → SessionParts → SessionParts
@@ -94,7 +90,7 @@ is_taken nodes path = length path == 0 || has_node nodes path
 -- the identifier of a node that is to stand at a path: its directory is there, and the path is free
 unfoldable pub node_sid : List (List ℕ) → ContextOf (List ℕ) → SessionParts → Result ℕ FaultKind
 node_sid path context session =
-    if not (is_below_root path) then Err Unknown
+    if not (is_parent_there session.nodes path) then Err Unknown
     else found_or Undeclared (context_sid session.policy.contexts context) >>= λ sid. placed sid
   where
     placed : ℕ → Result ℕ FaultKind
@@ -104,13 +100,13 @@ node_sid path context session =
 unfoldable pub file_read : List (List ℕ) → ContextOf (List ℕ) → Option (List ℕ) → SessionParts → Result SessionParts FaultKind
 file_read path context bytes session =
     if is_past_node path context (length session.nodes) || is_long_data bytes then Err Limit
-    else node_sid path context session >>= λ sid. Ok (with_file path sid (data_bytes bytes) session)
+    else node_sid path context session >>= λ sid. Ok (with_node path sid (Some (data_bytes bytes)) session)
 
--- a `dir` line, which is not built yet
+-- a `dir` line
 unfoldable pub directory_read : List (List ℕ) → ContextOf (List ℕ) → SessionParts → Result SessionParts FaultKind
 directory_read path context session =
     if is_past_node path context (length session.nodes) then Err Limit
-    else node_sid path context session >>= λ sid. Err Unbuilt
+    else node_sid path context session >>= λ sid. Ok (with_node path sid None session)
 
 -- a `client` line past a limit, below so many clients
 unfoldable pub is_past_client : List ℕ → ContextOf (List ℕ) → ℕ → Bool
@@ -133,11 +129,16 @@ client_read name context session =
     if is_past_client name context (length session.clients) then Err Limit
     else client_sid name context session >>= λ sid. Ok (with_client name sid session)
 
--- an `initial` line, which is not built yet
-unfoldable pub initial_read : ContextOf (List ℕ) → SessionParts → Result SessionParts FaultKind
-initial_read context session =
+-- whose context a declared one is to be: the root's, where it has none yet; that of the ports is not built
+unfoldable pub initial_with : Initial → ℕ → SessionParts → Result SessionParts FaultKind
+initial_with Root sid session = if is_some session.root then Err Twice else Ok (with_root sid session)
+initial_with Ports sid session = Err Unbuilt
+
+-- an `initial` line
+unfoldable pub initial_read : Initial → ContextOf (List ℕ) → SessionParts → Result SessionParts FaultKind
+initial_read what context session =
     if is_long_context context then Err Limit
-    else found_or Undeclared (context_sid session.policy.contexts context) >>= λ sid. Err Unbuilt
+    else found_or Undeclared (context_sid session.policy.contexts context) >>= λ sid. initial_with what sid session
 
 -- a `port` line, which is not built yet
 unfoldable pub port_read : ℕ → ContextOf (List ℕ) → SessionParts → Result SessionParts FaultKind
@@ -185,15 +186,35 @@ is_context_known contexts (OfFile (file.Relabel path context)) = is_some (contex
 is_context_known contexts (OfProcess (process.Exec pid context)) = is_some (context_sid contexts context)
 is_context_known contexts said = true
 
--- the call of the file manager, where it is of a built form: an open of a name in the root, or a read
-unfoldable pub built_call : CallForm → Option FileCall
-built_call (OfFile (file.Open slot path mode)) = if length path == 1 then Some (OpenFile slot path mode) else None
-built_call (OfFile (file.Read slot offset most)) = Some (ReadFile slot offset most)
-built_call said = None
+-- the call of the file manager by a slot, whose receiver is the client of its name
+unfoldable pub slot_call : List ClientLine → FileForm → Option FileCall
+slot_call clients (file.Open slot path mode) = Some (call.OpenFile slot path mode)
+slot_call clients (file.Read slot offset most) = Some (call.ReadFile slot offset most)
+slot_call clients (file.Write slot offset bytes) = Some (call.WriteFile slot offset bytes)
+slot_call clients (file.Append slot bytes) = Some (call.AppendFile slot bytes)
+slot_call clients (file.Close slot) = Some (call.CloseFile slot)
+slot_call clients (file.Give slot client target) = option_map (λ number. call.Give slot number target) (client_number clients client)
+slot_call clients said = None
+
+-- the call of the file manager by a path, with the identifier of its context
+unfoldable pub path_call : List ContextLine → FileForm → Option FileCall
+path_call contexts (file.Mkdir path) = Some (call.Mkdir path)
+path_call contexts (file.Create path) = Some (call.Create path)
+path_call contexts (file.Unlink path) = Some (call.Unlink path)
+path_call contexts (file.List path skip) = Some (call.List path skip)
+path_call contexts (file.Stat path) = Some (call.StatFile path)
+path_call contexts (file.Relabel path context) = option_map (λ sid. call.Relabel path sid) (context_sid contexts context)
+path_call contexts said = None
+
+-- the call, where it is built: one of the file manager. What it names is declared
+unfoldable pub built_call : SessionParts → CallForm → Option FileCall
+built_call session (OfFile said) = option_or (slot_call session.clients said) (path_call session.policy.contexts said)
+built_call session said = None
 
 -- a call whose arguments are declared, where it is built
 unfoldable pub declared_call_read : ℕ → ℕ → CallForm → Running → Result Running FaultKind
-declared_call_read n client said running = found_or Unbuilt (built_call said) >>= λ call. Ok (running_on running n (File client call))
+declared_call_read n client said running =
+    found_or Unbuilt (built_call running.session said) >>= λ built. Ok (running_on running n (File client built))
 
 -- a call of the client of that number
 unfoldable pub numbered_call_read : ℕ → ℕ → CallForm → Running → Result Running FaultKind

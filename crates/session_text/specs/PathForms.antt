@@ -3,7 +3,7 @@ use Rattle.std.specs.Prelude.{ℕ, Bool, ◌&&◌, ◌||◌, not, ◌==◌, nat_
 use Rattle.std.specs.List.{list_all, list_any, slice_split}
 use Rattle.std.specs.Str.{bytes_eq}
 use Rattle.flask_sid.specs.Names.{is_long}
-use Rattle.file_manager.specs.Formed.{is_path_byte}
+use Rattle.file_calls.specs.Formed.{is_path_byte}
 
 -- a part of a path, of any length: such bytes, one or more, and neither `.` nor `..`
 unfoldable pub is_part_form : List ℕ → Bool

@@ -1,5 +1,5 @@
 -- Reading a session text line after line, and the session that a text is.
-use Rattle.std.specs.Prelude.{◌≡◌, ℕ, ◌+◌, Bool, true, false, List, [], ◌∷◌, Result, Ok, Err, if◌then◌else◌, codes}
+use Rattle.std.specs.Prelude.{◌≡◌, ℕ, ◌+◌, Bool, true, false, List, [], ◌∷◌, None, Result, Ok, Err, if◌then◌else◌, codes}
 use Rattle.std.specs.Str.{bytes_eq}
 use Rattle.text_lines.specs.declared.fault.FaultKind.{FaultKind}
 use Rattle.text_lines.specs.declared.fault.FaultKind.TheVariants.{Syntax, Ended, Unbuilt}
@@ -30,7 +30,7 @@ is_session_line line = begins_session (words_of line)
 
 -- the session of a policy, with nothing there yet
 abbrev pub session_of_policy : PolicyParts → SessionParts
-session_of_policy policy = record { policy = policy; nodes = []; clients = []; lines = [] }
+session_of_policy policy = record { policy = policy; root = None; nodes = []; clients = []; lines = [] }
 
 -- `session`, alone in its line
 unfoldable pub is_alone : List (List ℕ) → Bool
@@ -50,7 +50,7 @@ unfoldable pub setup_read : ℕ → SetupForm → SessionParts → Result Sessio
 setup_read n (form.File path context bytes) session = file_read path context bytes session >>= λ next. Ok (Setup (n + 1) next)
 setup_read n (form.Client name context) session = client_read name context session >>= λ next. Ok (Setup (n + 1) next)
 setup_read n (form.Directory path context) session = directory_read path context session >>= λ next. Ok (Setup (n + 1) next)
-setup_read n (form.Initial what context) session = initial_read context session >>= λ next. Ok (Setup (n + 1) next)
+setup_read n (form.Initial what context) session = initial_read what context session >>= λ next. Ok (Setup (n + 1) next)
 setup_read n (form.Port number context) session = port_read number context session >>= λ next. Ok (Setup (n + 1) next)
 setup_read n form.Audit session = Err Unbuilt
 setup_read n form.Run session = Ok (Lines (n + 1) (begun session))

@@ -2,6 +2,7 @@
 #![tactic(auto)]
 
 mod arguments;
+mod built;
 mod call_forms;
 mod look_up;
 mod parts;

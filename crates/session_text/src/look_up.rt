@@ -1,15 +1,17 @@
 //! What the lines above have: contexts, nodes and clients by their words.
 
-ghost use Rattle.std.specs.Prelude.{◌≡◌, ◌<◌, ◌≤◌, Some, length, IfSome};
+ghost use Rattle.std.specs.Prelude.{◌≡◌, ◌<◌, ◌≤◌, ◌&&◌, Some, length, IfSome};
 ghost use Rattle.std.specs.List.{list_any, position};
 ghost use Rattle.std.specs.Str.{bytes_eq};
-ghost use Rattle.file_manager.specs.Paths.{same_path};
+ghost use Rattle.file_tree.specs.Nodes.{is_directory_node};
+ghost use Rattle.file_calls.specs.Paths.{same_path};
+ghost use Rattle.file_calls.specs.Openings;
 ghost use Rattle.policy_text.specs.Above.{same_context};
 ghost use Rattle.session_text.specs.Grammar;
 ghost use Rattle.session_text.specs.Sessions.{IsSidOf};
 
 use crate::session::ClientLine;
-use file_manager::{FilePath, Node};
+use file_calls::{FilePath, Node};
 use flask_sid::{ContextOf, Sid, Word};
 use policy_text::ContextLine;
 
@@ -75,9 +77,30 @@ pub fn has_client(clients: &[ClientLine], name: &Word<'_>) -> bool
 }
 
 /// Whether a node of that path is there.
-#[tactic(auto, unfolding(crate::specs::Grammar::has_node))]
+#[tactic(auto, unfolding(file_calls::specs::Openings::has_node))]
 pub fn has_node(nodes: &[Node], path: &FilePath) -> bool
-    ensures { result ≡ Grammar.has_node nodes.now path.now }
+    ensures { result ≡ Openings.has_node nodes.now path.now }
 {
     nodes.iter().any(|node| node.path.is(path))
+}
+
+/// Whether the directory in which a path stands is there: the root, or one of the nodes.
+#[tactic(auto, unfolding(file_calls::specs::Openings::is_parent_there))]
+pub fn is_parent_there(nodes: &[Node], path: &FilePath) -> bool
+    ensures { result ≡ Openings.is_parent_there nodes.now path.now }
+{
+    path.len() <= 1 || has_parent(nodes, path)
+}
+
+#[tactic(auto, unfolding(file_calls::specs::Openings::has_directory))]
+fn has_parent(nodes: &[Node], path: &FilePath) -> bool
+    ensures { result ≡ Openings.has_directory nodes.now (Openings.parent_of path.now) }
+{
+    nodes.iter().any(|node| is_directory_above(node, path))
+}
+
+fn is_directory_above(node: &Node, path: &FilePath) -> bool
+    ensures { result ≡ (is_directory_node node.now.bytes && same_path node.now.path (Openings.parent_of path.now)) }
+{
+    node.bytes.is_none() && node.path.is_parent_of(path)
 }

@@ -1,11 +1,11 @@
-ghost use Rattle.std.specs.Prelude.{◌≡◌, ◌==◌, [], ◌∷◌, nat_lt, length, IfOk, MatchOption};
+ghost use Rattle.std.specs.Prelude.{◌≡◌, [], ◌∷◌, nat_lt, length, IfOk, MatchOption};
 ghost use Rattle.std.specs.List.{list_all, list_any};
 ghost use Rattle.flask_sid.specs.Names;
-ghost use Rattle.file_manager.specs.Formed;
+ghost use Rattle.file_calls.specs.Formed;
 ghost use Rattle.session_text.specs.PathForms;
 ghost use Rattle.session_text.specs.Arguments;
 
-use file_manager::FilePath;
+use file_calls::FilePath;
 use flask_sid::{Memory, Piece, Word, cut};
 use std::alloc::Global;
 use std::marker::Model;
@@ -92,20 +92,6 @@ impl<'a> Parts<'a> {
     {
         let mut parts = self.again();
         parts.next().is_none()
-    }
-
-    /// Whether the path has one part.
-    pub fn is_one(&self) -> bool
-        ensures { result ≡ (length self.now == 1) }
-    {
-        let mut parts = self.again();
-        let Some(_part) = parts.next() else {
-            return false;
-        };
-        match parts.next() {
-            None => true,
-            Some(_more) => false,
-        }
     }
 
     /// Whether there are more parts than a path may have, or a part is too long.

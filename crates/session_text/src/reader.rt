@@ -182,8 +182,8 @@ fn setup_read(
             let next = client_read(alloc, name, context, session)?;
             Ok(SessionReader::Setup(number + 1, next))
         }
-        SetupForm::Initial(_what, context) => {
-            let next = initial_read(context, session)?;
+        SetupForm::Initial(what, context) => {
+            let next = initial_read(what, context, session)?;
             Ok(SessionReader::Setup(number + 1, next))
         }
         SetupForm::Port(port, context) => {

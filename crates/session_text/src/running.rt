@@ -1,17 +1,16 @@
 ghost use Rattle.std.specs.Prelude.{◌≡◌, ◌<◌, replicate, false, length, IfOk, IfSome};
 ghost use Rattle.text_lines.specs.Refusals.{Gives};
-ghost use Rattle.file_manager.specs.Formed.{IsCall};
 ghost use Rattle.session_text.specs.Grammar;
 ghost use Rattle.session_text.specs.Ranges;
 ghost use Rattle.session_text.specs.ArgumentForms.{IsCallForm, IsRunForm};
-ghost use Rattle.session_text.specs.Sessions.{IsRun};
+ghost use Rattle.session_text.specs.Sessions.{IsRun, IsSidOf};
 
+use crate::built::built_call;
 use crate::call_forms::{CallForm, FileForm, ProcessForm};
 use crate::look_up::{client_number, has_client};
 use crate::ranges::is_past_call;
 use crate::run_forms::{Manager, RunForm};
 use crate::session::{ClientLine, Run, Session};
-use file_manager::FileCall;
 use flask_sid::{Memory, Word};
 use std::alloc::Global;
 use std::marker::Model;
@@ -90,7 +89,7 @@ impl Running {
     }
 
     fn with_line(self, line: u32, run: Run) -> Result<Running, Memory>
-        requires { IsRun (length self.session.clients) run }
+        requires { IsRun (IsSidOf self.session.policy.contexts) (length self.session.clients) run }
         ensures { IfOk result (λ next. next ≡ Grammar.running_on self line run) }
     {
         let Running { session, held } = self;
@@ -99,7 +98,7 @@ impl Running {
     }
 
     fn with_pass(self, line: u32, run: Run, client: u8, now: bool) -> Result<Running, Memory>
-        requires run { IsRun (length self.session.clients) run }
+        requires run { IsRun (IsSidOf self.session.policy.contexts) (length self.session.clients) run }
         requires client { client < length self.session.clients }
         ensures { IfOk result (λ next. next ≡ Grammar.held_on self line run client now) }
     {
@@ -226,7 +225,7 @@ fn declared_call_read(
     requires forms { IsCallForm form }
     ensures { Gives result (Grammar.declared_call_read line client form.entry running) }
 {
-    let Some(call) = built_call(alloc, form)? else {
+    let Some(call) = built_call(alloc, &running.session, form)? else {
         return Err(Refusal::Fault(FaultKind::Unbuilt));
     };
     Ok(running.with_line(line, Run::File { client, call })?)
@@ -257,35 +256,6 @@ fn is_context_known(session: &Session, form: &CallForm<'_>) -> bool
     }
 }
 
-/// The call of the file manager, where it is of a built form.
-#[tactic(auto, unfolding(crate::specs::Grammar::built_call, crate::specs::Ranges::is_past_call, crate::specs::Ranges::is_past_file))]
-fn built_call(alloc: Global, form: CallForm<'_>) -> Result<Option<FileCall>, Memory>
-    requires within { Ranges.is_past_call form ≡ false }
-    requires forms { IsCallForm form }
-    ensures value { IfOk result (λ call. call ≡ Grammar.built_call form.entry) }
-    ensures formed { IfOk result (λ call. IfSome call IsCall) }
-{
-    match form {
-        CallForm::OfFile(FileForm::Open(slot, path, mode)) => {
-            if !path.is_one() {
-                return Ok(None);
-            }
-            let path = path.kept(alloc)?;
-            Ok(Some(FileCall::OpenFile {
-                slot: slot as u8,
-                path,
-                mode,
-            }))
-        }
-        CallForm::OfFile(FileForm::Read(slot, offset, most)) => Ok(Some(FileCall::ReadFile {
-            slot: slot as u8,
-            offset: offset as u32,
-            length: most as u32,
-        })),
-        _ => Ok(None),
-    }
-}
-
 /// A client takes a pass of a manager or gives it back, where that is built.
 #[tactic(auto, unfolding(crate::specs::Grammar::pass_on))]
 fn pass_on(
@@ -296,7 +266,7 @@ fn pass_on(
     now: bool,
     running: Running,
 ) -> Result<Running, Refusal>
-    requires run { IsRun (length running.session.clients) run }
+    requires run { IsRun (IsSidOf running.session.policy.contexts) (length running.session.clients) run }
     requires client { client < length running.session.clients }
     ensures { Gives result (Grammar.pass_on manager running line run client now) }
 {

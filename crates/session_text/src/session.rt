@@ -1,11 +1,11 @@
-ghost use Rattle.std.specs.Prelude.{◌≡◌, ◌<◌, ◌≤◌, [], length, IfOk, IfSome};
-ghost use Rattle.session_text.specs.Sessions.{IsSession, IsSidOf, IsRun};
+ghost use Rattle.std.specs.Prelude.{◌≡◌, ◌<◌, ◌≤◌, [], length, None, IfOk, IfSome};
+ghost use Rattle.session_text.specs.Sessions.{IsSession, IsSidOf, IsPlace, IsRun};
 ghost use Rattle.session_text.specs.Grammar;
 
 use crate::look_up::context_sid;
-use file_manager::{FileCall, FilePath, Node};
+use file_calls::{FileCall, FilePath, Node};
 use flask_sid::{ContextOf, Memory, Name, Piece, Rows, Sid, Word};
-use policy_text::PolicyText;
+use policy_text::{ContextLine, PolicyText};
 use std::alloc::Global;
 use std::marker::Model;
 
@@ -45,15 +45,18 @@ pub struct RunLine {
 #[derive(Debug, Drop)]
 pub struct SessionParts {
     pub policy: PolicyText,
-    /// The files that are there at the start. A node's `sid` is the place of its context among the `context` lines,
-    /// from 1.
+    /// The place of the root's context, where an `initial root` line gives it.
+    pub root: Option<Sid>,
+    /// The files and directories that are there at the start. A node's `sid` is the place of its context among the
+    /// `context` lines, from 1.
     pub nodes: Rows<Node>,
     pub clients: Rows<ClientLine>,
     pub lines: Rows<RunLine>,
 }
 
-/// A session. It keeps what the grammar asks of one: nodes and clients have declared contexts, the clients are at
-/// most 62, and each line is one of a client of the session, with numbers in their ranges.
+/// A session. It keeps what the grammar asks of one: root, nodes and clients have declared contexts, each node stands
+/// in a directory before it, the clients are at most 62, and each line is one of a client of the session, with numbers
+/// in their ranges and of declared names.
 #[derive(Debug, Drop)]
 pub struct Session {
     parts: SessionParts,
@@ -83,7 +86,14 @@ impl Session {
         ensures value { result ≡ Grammar.context_sid self.now.policy.contexts context.now }
         ensures known { IfSome result (IsSidOf self.now.policy.contexts) }
     {
-        context_sid(self.parts.policy.parts().contexts.as_slice(), context)
+        context_sid(self.contexts(), context)
+    }
+
+    /// The declared contexts.
+    pub(crate) fn contexts(&self) -> &[ContextLine]
+        ensures { result.now ≡ self.now.policy.contexts }
+    {
+        self.parts.policy.parts().contexts.as_slice()
     }
 
     /// The clients, of whom there are at most 62.
@@ -108,11 +118,12 @@ impl Session {
 impl Session {
     /// The session of a policy, with nothing there yet.
     pub(crate) fn begun(alloc: Global, policy: PolicyText) -> Session
-        ensures { result ≡ record { policy = policy; nodes = []; clients = []; lines = [] } }
+        ensures { result ≡ record { policy = policy; root = None; nodes = []; clients = []; lines = [] } }
     {
         Session {
             parts: SessionParts {
                 policy,
+                root: None,
                 nodes: Rows::new(alloc),
                 clients: Rows::new(alloc),
                 lines: Rows::new(alloc),
@@ -120,17 +131,28 @@ impl Session {
         }
     }
 
-    pub(crate) fn with_file(self, path: FilePath, sid: Sid, bytes: Piece) -> Result<Session, Memory>
+    pub(crate) fn with_root(self, sid: Sid) -> Session
         requires { IsSidOf self.policy.contexts sid }
-        ensures { IfOk result (λ next. next ≡ Grammar.with_file path sid bytes self) }
+        ensures { result ≡ Grammar.with_root sid self }
     {
         let Session { mut parts } = self;
-        let node = Node {
-            path,
-            sid,
-            bytes: Some(bytes),
-        };
-        parts.nodes.push(node)?;
+        parts.root = Some(sid);
+        Session { parts }
+    }
+
+    pub(crate) fn with_node(
+        self,
+        path: FilePath,
+        sid: Sid,
+        bytes: Option<Piece>,
+    ) -> Result<Session, Memory>
+        requires sid { IsSidOf self.policy.contexts sid }
+        requires place { IsPlace self.nodes path }
+        requires few { length self.nodes < 4095 }
+        ensures { IfOk result (λ next. next ≡ Grammar.with_node path sid bytes self) }
+    {
+        let Session { mut parts } = self;
+        parts.nodes.push(Node { path, sid, bytes })?;
         Ok(Session { parts })
     }
 
@@ -145,7 +167,7 @@ impl Session {
     }
 
     pub(crate) fn with_line(self, line: u32, run: Run) -> Result<Session, Memory>
-        requires { IsRun (length self.clients) run }
+        requires { IsRun (IsSidOf self.policy.contexts) (length self.clients) run }
         ensures { IfOk result (λ next. next ≡ Grammar.with_line line run self) }
     {
         let Session { mut parts } = self;

@@ -1,16 +1,17 @@
 //! What a session line asks of the lines above it.
 
-ghost use Rattle.std.specs.Prelude.{◌≡◌, ◌<◌, IfOk};
+ghost use Rattle.std.specs.Prelude.{◌≡◌, ◌<◌, Some, length, IfOk, OnOk};
 ghost use Rattle.std.specs.Bool.{OnFalse};
 ghost use Rattle.text_lines.specs.Refusals.{Gives};
 ghost use Rattle.session_text.specs.Grammar;
-ghost use Rattle.session_text.specs.Sessions.{IsSidOf};
+ghost use Rattle.session_text.specs.Sessions.{IsPlace, IsSidOf};
 
-use crate::look_up::{has_client, has_node};
+use crate::look_up::{has_client, has_node, is_parent_there};
 use crate::parts::Parts;
 use crate::ranges::{is_long_data, is_past_place};
 use crate::session::{ClientLine, Session};
-use file_manager::{FilePath, Node};
+use crate::setup_forms::Initial;
+use file_calls::{FilePath, Node};
 use flask_sid::{ContextOf, Memory, Name, Piece, Sid, Word};
 use std::alloc::Global;
 use text_lines::{FaultKind, Refusal};
@@ -46,14 +47,16 @@ fn with_file(
     bytes: &Option<Word<'_>>,
     session: Session,
 ) -> Result<Session, Memory>
-    requires { IsSidOf session.policy.contexts sid }
-    ensures { IfOk result (λ next. next ≡ Grammar.with_file path sid (Grammar.data_bytes bytes.now) session) }
+    requires sid { IsSidOf session.policy.contexts sid }
+    requires place { IsPlace session.nodes path }
+    requires few { length session.nodes < 4095 }
+    ensures { IfOk result (λ next. next ≡ Grammar.with_node path sid (Some (Grammar.data_bytes bytes.now)) session) }
 {
     let bytes = data_bytes(alloc, bytes)?;
-    session.with_file(path, sid, bytes)
+    session.with_node(path, sid, Some(bytes))
 }
 
-/// A `dir` line, which is not built yet.
+/// A `dir` line.
 #[tactic(auto, unfolding(crate::specs::Grammar::directory_read))]
 pub fn directory_read(
     alloc: Global,
@@ -67,8 +70,8 @@ pub fn directory_read(
         return Err(Refusal::Fault(FaultKind::Limit));
     }
     let path = path.kept(alloc)?;
-    let _sid = node_sid(&path, &context, &session)?;
-    Err(Refusal::Fault(FaultKind::Unbuilt))
+    let sid = node_sid(&path, &context, &session)?;
+    Ok(session.with_node(path, sid, None)?)
 }
 
 /// The identifier of a node that is to stand at a path.
@@ -80,8 +83,9 @@ fn node_sid(
 ) -> Result<Sid, Refusal>
     ensures value { Gives result (Grammar.node_sid path.now context.now session.now) }
     ensures known { IfOk result (IsSidOf session.now.policy.contexts) }
+    ensures place { OnOk result (IsPlace session.now.nodes path.now) }
 {
-    if path.len() > 1 {
+    if !is_parent_there(session.parts().nodes.as_slice(), path) {
         return Err(Refusal::Fault(FaultKind::Unknown));
     }
     let Some(sid) = session.sid_of(context) else {
@@ -95,7 +99,8 @@ fn node_sid(
 
 #[tactic(auto, unfolding(crate::specs::Grammar::is_past_node))]
 fn is_past_node(path: &Parts<'_>, context: &ContextOf<Word<'_>>, nodes: usize) -> bool
-    ensures { result ≡ Grammar.is_past_node path.now context.now nodes }
+    ensures value { result ≡ Grammar.is_past_node path.now context.now nodes }
+    ensures below { OnFalse result (nodes < 4095) }
 {
     path.is_long() || context.is_long() || nodes >= NODE_LIMIT
 }
@@ -168,17 +173,38 @@ fn client_sid(
     Ok(sid)
 }
 
-/// An `initial` line, which is not built yet.
+/// An `initial` line.
 #[tactic(auto, unfolding(crate::specs::Grammar::initial_read))]
-pub fn initial_read(context: ContextOf<Word<'_>>, session: Session) -> Result<Session, Refusal>
-    ensures { Gives result (Grammar.initial_read context.entry session) }
+pub fn initial_read(
+    what: Initial,
+    context: ContextOf<Word<'_>>,
+    session: Session,
+) -> Result<Session, Refusal>
+    ensures { Gives result (Grammar.initial_read what context.entry session) }
 {
     if context.is_long() {
         return Err(Refusal::Fault(FaultKind::Limit));
     }
     match session.sid_of(&context) {
         None => Err(Refusal::Fault(FaultKind::Undeclared)),
-        Some(_sid) => Err(Refusal::Fault(FaultKind::Unbuilt)),
+        Some(sid) => initial_with(what, sid, session),
+    }
+}
+
+/// Whose context a declared one is to be: the root's, where it has none yet. That of the ports is not built.
+#[tactic(auto, unfolding(crate::specs::Grammar::initial_with))]
+fn initial_with(what: Initial, sid: Sid, session: Session) -> Result<Session, Refusal>
+    requires { IsSidOf session.policy.contexts sid }
+    ensures { Gives result (Grammar.initial_with what sid session) }
+{
+    match what {
+        Initial::Root => {
+            if session.parts().root.is_some() {
+                return Err(Refusal::Fault(FaultKind::Twice));
+            }
+            Ok(session.with_root(sid))
+        }
+        Initial::Ports => Err(Refusal::Fault(FaultKind::Unbuilt)),
     }
 }
 

@@ -1,7 +1,7 @@
 use Rattle.std.proofs.Common.{sym, ap}
 use Rattle.session_text.specs.declared.session.SessionParts.{SessionParts}
 use Rattle.policy_versions.specs.Compiling.{sids_of, decides_of}
-use Rattle.flaskd_run.proofs.SerialLemmas.{opening_known}
+use Rattle.flaskd_run.proofs.SerialLemmas.{declared_known, opening_known}
 use Rattle.flaskd_run.proofs.TopLemmas.{refused_policy, ok_served, failed_served, cut_served}
 use Rattle.flaskd_run.proofs.top.run.Goals as goal
 
@@ -12,20 +12,25 @@ returns-in-Err-clause-served g c =
 
 pub serial-requires-clause-opening : goal.serial-requires-clause-opening
 serial-requires-clause-opening g c =
-    opening_known c.into_parts-parts.result (sids_of c.in-Ok.catalogue) (decides_of c.in-Ok.catalogue)
-    (rw (← c.into_parts-parts.ensures.value) at c.into_parts-parts.ensures.kept) c.parts-policy.ensures.kept.context c.in-Ok.ensures.judged.1 c.in-Ok.ensures.decides
+    opening_known c.into_parts-parts.result (decides_of c.in-Ok.catalogue)
+    (rw (← c.into_parts-parts.ensures.value) at c.into_parts-parts.ensures.kept) c.parts-policy.ensures.kept.context
+    (declared_known c.into_parts-parts.result.policy (sids_of c.in-Ok.catalogue) (decides_of c.in-Ok.catalogue) c.in-Ok.ensures.judged.1 c.in-Ok.ensures.decides)
+
+pub serial-requires-clause-known : goal.serial-requires-clause-known
+serial-requires-clause-known g c =
+    declared_known c.into_parts-parts.result.policy (sids_of c.in-Ok.catalogue) (decides_of c.in-Ok.catalogue) c.in-Ok.ensures.judged.1 c.in-Ok.ensures.decides
 
 pub returns-in-Ok-serial-clause-served : goal.returns-in-Ok-serial-clause-served
 returns-in-Ok-serial-clause-served g c =
     ok_served c.args.session c.into_parts-parts.result (sids_of c.in-Ok.catalogue) (decides_of c.in-Ok.catalogue) _ _
-    c.into_parts-parts.ensures.value c.in-Ok.ensures.judged c.in-Ok.ensures.decides c.in-Ok-serial.ensures.ok
+    c.into_parts-parts.ensures.value c.in-Ok.ensures.judged c.in-Ok.ensures.decides (rw c.sids.ensures at c.in-Ok-serial.ensures.ok)
 
 pub returns-in-Err-WriteFault-clause-served : goal.returns-in-Err-WriteFault-clause-served
 returns-in-Err-WriteFault-clause-served g c =
     failed_served c.args.session c.into_parts-parts.result (sids_of c.in-Ok.catalogue) (decides_of c.in-Ok.catalogue) _ _
-    c.into_parts-parts.ensures.value c.in-Ok.ensures.judged c.in-Ok.ensures.decides c.in-Err-WriteFault.ensures.err
+    c.into_parts-parts.ensures.value c.in-Ok.ensures.judged c.in-Ok.ensures.decides (rw c.sids.ensures at c.in-Err-WriteFault.ensures.err)
 
 pub returns-clause-served : goal.returns-clause-served
 returns-clause-served g c =
     cut_served c.args.session c.into_parts-parts.result (sids_of c.in-Ok.catalogue) (decides_of c.in-Ok.catalogue) _ _
-    c.into_parts-parts.ensures.value c.in-Ok.ensures.judged c.in-Ok.ensures.decides c.in-Err-Memory.ensures.err
+    c.into_parts-parts.ensures.value c.in-Ok.ensures.judged c.in-Ok.ensures.decides (rw c.sids.ensures at c.in-Err-Memory.ensures.err)

@@ -1,0 +1,10 @@
+pub mod Paths
+pub mod Formed
+pub mod Openings
+pub mod States
+pub mod Walks
+pub mod PathCalls
+pub mod SlotCalls
+pub mod Plain
+pub mod Example
+pub mod Honest

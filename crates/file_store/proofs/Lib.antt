@@ -1,0 +1,10 @@
+pub mod MapLemmas
+pub mod Following
+pub mod Revising
+pub mod Linking
+pub mod StateLemmas
+pub mod UseLemmas
+pub mod ChangeLemmas
+pub mod StepLemmas
+pub mod LayLemmas
+pub mod NewLemmas

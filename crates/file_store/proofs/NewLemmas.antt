@@ -1,0 +1,50 @@
+-- Files as they are opened.
+use Rattle.std.proofs.Common.{◌≡◌, ◌<◌, refl, sym, ap, subst, ◌∙◌}
+use Rattle.std.specs.FinMap as maps
+use Rattle.access_vectors.specs.Decisions.{Decisions}
+use Rattle.access_vectors.specs.declared.class.Class.TheVariants.{File}
+use Rattle.retained_rights.specs.Rights.{Rights, no_rights}
+use Rattle.retained_rights.specs.declared.grant.Grant.{Grant}
+use Rattle.retained_rights.specs.declared.rule.Rule.TheVariants.{Each}
+use Rattle.file_tree.specs.Nodes.{Nodes}
+use Rattle.file_tree.specs.Plain.{plain}
+use Rattle.file_calls.specs.Openings.{IsOpening}
+use Rattle.file_calls.specs.States.{laid, root_tree, opened_with}
+use Rattle.file_calls.specs.declared.opening.FileOpening.{FileOpening}
+use Rattle.file_store.specs.Stores.{Shown, IsWellMade, IsInStep, Safe, state_of, slots_of, follows}
+use Rattle.file_store.proofs.MapLemmas.{mapped-empty}
+use Rattle.file_store.proofs.Linking.{fit_new, none_held}
+use Rattle.file_store.proofs.LayLemmas.{AreLabels, known_nodes, labels_laid, labels_root}
+
+abbrev pub opened : FileOpening → Nodes → Rights → Shown
+opened opening nodes rights = record { opening = opening; nodes = nodes; rights = rights }
+
+module _ (opening : FileOpening) (nodes : Nodes) (rights : Rights) (none : rights ≡ no_rights Each File) (made : IsWellMade nodes) where
+  step_none : IsInStep (opened opening nodes (no_rights Each File))
+  step_none = record { tree = made; linked = λ place grant is. absurd (none_held place grant is); rule = refl; class = refl }
+
+  pub step_opened : IsInStep (opened opening nodes rights)
+  step_opened = subst (λ now. IsInStep (opened opening nodes now)) (sym none) step_none
+
+  module _ (stands : plain nodes ≡ laid (root_tree opening.root) opening.nodes) where
+    none_shown : slots_of nodes maps.empty ≡ maps.empty
+    none_shown = mapped-empty {V = Grant} _
+
+    pub state_opened : state_of (opened opening nodes rights) ≡ opened_with opening
+    state_opened = ap (λ now. state_of (opened opening nodes now)) none ∙ (λ i. record { opening = opening; tree = stands i; slots = none_shown i })
+
+    safe_none : (d : Decisions) → 0 < d.versions → IsOpening d opening → Safe d (opened opening nodes (no_rights Each File))
+    unfolding Safe
+    safe_none d some is = record {
+      step = step_none;
+      clients = is.0;
+      labels = known_nodes d nodes made.mirrored
+          (subst (AreLabels d) (sym stands) (labels_laid d (root_tree opening.root) opening.nodes (labels_root d opening.root is.1) is.2));
+      rights = fit_new d some;
+    }
+
+    pub safe_opened : (d : Decisions) → 0 < d.versions → IsOpening d opening → Safe d (opened opening nodes rights)
+    safe_opened d some is = subst (λ now. Safe d (opened opening nodes now)) (sym none) (safe_none d some is)
+
+pub follows_opened : (opening : FileOpening) (nodes : Nodes) (rights : Rights) → rights ≡ no_rights Each File → follows (opened opening nodes rights) ≡ maps.empty
+follows_opened opening nodes rights none = ap (λ now. follows (opened opening nodes now)) none ∙ mapped-empty _

@@ -1,0 +1,8 @@
+use Rattle.file_store.specs.Stores.{Shown}
+use Rattle.file_store.proofs.UseLemmas.{use_of_slot}
+use Rattle.file_store.proofs.files.Files.slot_use.Goals as goal
+
+pub returns : goal.returns
+returns g c =
+    let shown : Shown = record { opening = c.self.inside.opening; nodes = c.self.inside.tree; rights = c.self.inside.grants } in
+    rw (← c.self.view_is) (rw c.usable.ensures (use_of_slot shown c.args.client c.args.slot c.ranges.slot.fits))

@@ -1,0 +1,4 @@
+pub mod Stores
+pub mod Uses
+pub mod Laying
+pub mod Laws
