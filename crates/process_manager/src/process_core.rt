@@ -1,0 +1,191 @@
+ghost use Rattle.std.specs.Prelude.{◌≡◌, ◌<◌, []};
+ghost use Rattle.std.specs.FinMap as maps;
+ghost use Rattle.access_vectors.specs.Decisions.{Decisions};
+ghost use Rattle.access_vectors.specs.declared.phase.Phase.{Phase};
+ghost use Rattle.retained_rights.specs.Rules.{Meets};
+ghost use Rattle.retained_rights.specs.declared.rule.Rule.{Rule};
+ghost use Rattle.process_calls.specs.States.{IsOpening, opened_with};
+ghost use Rattle.process_store.specs.Stores.{Safe, state_of, follows};
+
+use crate::attaches::{attach, detach};
+use crate::ends::{exit, signal};
+use crate::execs::exec;
+use crate::forks::fork;
+use crate::peeks::peek;
+use crate::pokes::poke;
+use crate::stats::stat;
+use crate::waits::wait;
+use access_vectors::{Asker, Decider, Questions, Steps};
+use flask_sid::Memory;
+use manager_history::Core;
+use process_calls::{ProcessCall, ProcessOpening, ProcessReply};
+use process_store::Processes;
+use retained_rights::Callback;
+use std::alloc::Global;
+use std::marker::Model;
+use std::sync::ledger::Ledger;
+
+/// The process manager as a core of histories. Contracts see its processes and rights.
+#[derive(Drop)]
+pub struct ProcessCore<F: Callback> {
+    processes: Processes<F>,
+}
+
+impl<F: Callback> Model for ProcessCore<F> {
+    ghost use Rattle.std.specs.Prelude.{ℕ, List, refl};
+    ghost use Rattle.std.specs.Ordering.{nat_cmp};
+    ghost use Rattle.std.specs.FinMap as maps;
+    ghost use Rattle.std.specs.Coded.{code_by, coded×, coded_list, coded_ℕ};
+    ghost use Rattle.access_vectors.specs.contracts.class.Class as class_type;
+    ghost use Rattle.access_vectors.specs.contracts.phase.Phase as phase_type;
+    ghost use Rattle.access_vectors.specs.declared.class.Class.{Class};
+    ghost use Rattle.access_vectors.specs.declared.phase.Phase.{Phase};
+    ghost use Rattle.retained_rights.specs.contracts.grant.Grant as grant_type;
+    ghost use Rattle.retained_rights.specs.contracts.rule.Rule as rule_type;
+    ghost use Rattle.retained_rights.specs.declared.rule.Rule.{Rule};
+    ghost use Rattle.retained_rights.specs.declared.grant.Grant.{Grant};
+    ghost use Rattle.process_calls.specs.contracts.opening.ProcessOpening as opening_type;
+    ghost use Rattle.process_calls.specs.contracts.process.Process as process_type;
+    ghost use Rattle.process_calls.specs.declared.opening.ProcessOpening.{ProcessOpening};
+    ghost use Rattle.process_store.specs.Stores.{Numbered, Shown};
+
+    ghost Value = { Shown };
+
+    ghost coded = { code_by (ProcessOpening × (Numbered × (Rule × (Class × (Phase × (maps.FinMap nat_cmp Grant × List ℕ))))))
+        (coded× opening_type.the_row.coded (coded× (maps.code coded_ℕ process_type.the_row.coded) (coded× rule_type.the_row.coded
+        (coded× class_type.the_row.coded (coded× phase_type.the_row.coded
+        (coded× (maps.code coded_ℕ grant_type.the_row.coded) (coded_list coded_ℕ)))))))
+        (λ v. (v.opening, (v.processes, (v.rights.rule, (v.rights.class, (v.rights.phase, (v.rights.held, v.rights.stale)))))))
+        (λ p. record {
+          opening = p.0;
+          processes = p.1.0;
+          rights = record { rule = p.1.1.0; class = p.1.1.1.0; phase = p.1.1.1.1.0; held = p.1.1.1.1.1.0; stale = p.1.1.1.1.1.1 };
+        }) (λ _. refl) };
+
+    ghost view = { λ core. core.processes };
+}
+
+/// The core that an opening gives: no process runs, every slot is free, and the policy is settled at number 0 with version 0.
+/// The callback meets the rule All. It takes no memory.
+pub fn new<F: Callback + Drop>(
+    alloc: Global,
+    opening: ProcessOpening,
+    callback: F,
+) -> ProcessCore<F>
+    requires callback { Meets F.may F.gives Rule.All callback }
+    ensures opening { result.opening ≡ opening }
+    ensures state { state_of result ≡ opened_with opening }
+    ensures follows { follows result ≡ maps.empty }
+    ensures stale { result.rights.stale ≡ [] }
+    ensures settled { result.rights.phase ≡ Phase.Settled 0 0 }
+    ensures fits { (d : Decisions) → 0 < d.versions → IsOpening d opening → Safe d result }
+{
+    let processes = Processes::new(alloc, opening, callback);
+    ProcessCore { processes }
+}
+
+impl<F: Callback> Core for ProcessCore<F> {
+    ghost use Rattle.access_vectors.specs.declared.class.Class.TheVariants as class_of;
+    ghost use Rattle.process_calls.specs.Honest.{honest_answer};
+    ghost use Rattle.process_calls.specs.Plain as plainly;
+    ghost use Rattle.process_calls.specs.Plain.{IsFormed};
+    ghost use Rattle.process_calls.specs.States.{ProcessState, opened_with};
+    ghost use Rattle.process_store.specs.Stores as stores;
+    ghost use Rattle.process_store.specs.Stores.{Safe, state_of};
+    ghost use Rattle.process_store.specs.Laws.{stale_as_defined, follows_named};
+
+    type Call = ProcessCall;
+
+    type Reply = ProcessReply;
+
+    ghost State = { ProcessState };
+
+    ghost opening = { λ core. opened_with core.opening };
+
+    ghost state = { λ core. state_of core };
+
+    ghost phase = { λ core. core.rights.phase };
+
+    ghost plain = { plainly.answer };
+
+    ghost formed = { λ d state caller call. IsFormed d state caller call };
+
+    ghost denial_of = { plainly.denial_of };
+
+    ghost class = { class_of.Process };
+
+    ghost pair_of = { plainly.pair_of };
+
+    ghost use_of = { plainly.use_of };
+
+    ghost follows = { λ core. stores.follows core };
+
+    ghost followed = { plainly.followed };
+
+    ghost stale = { λ core. core.rights.stale };
+
+    ghost fits = { λ d core. Safe d core };
+
+    fn call<A: Asker>(
+        &mut self,
+        _alloc: Global,
+        caller: u8,
+        call: &ProcessCall,
+        number: u32,
+        asker: &mut A,
+        asked: &mut Questions,
+    ) -> Result<(ProcessReply, ProcessReply), Memory> {
+        let processes = &mut self.processes;
+        match *call {
+            ProcessCall::Fork { pid } => fork(processes, caller, pid, number, asker, asked),
+            ProcessCall::Exec { pid, sid } => exec(
+                processes, caller, pid, sid, number, asker, asked,
+            ),
+            ProcessCall::Signal { pid, number: sent } => {
+                signal(processes, caller, pid, sent, number, asker, asked)
+            }
+            ProcessCall::Exit { pid, code } => exit(
+                processes, caller, pid, code, number, asker, asked,
+            ),
+            ProcessCall::Wait { pid } => wait(processes, caller, pid, number, asker, asked),
+            ProcessCall::Attach { slot, pid } => {
+                attach(processes, caller, slot, pid, number, asker, asked)
+            }
+            ProcessCall::Peek { slot } => peek(processes, caller, slot, number, asker, asked),
+            ProcessCall::Poke { slot, value } => {
+                poke(processes, caller, slot, value, number, asker, asked)
+            }
+            ProcessCall::Detach { slot } => Ok(detach(processes, caller, slot)),
+            ProcessCall::StatProcess { pid } => stat(processes, caller, pid, number, asker, asked),
+        }
+    }
+
+    fn start<D: Decider>(
+        &mut self,
+        _alloc: Global,
+        decider: &D,
+        number: u32,
+        old: u8,
+        new: u8,
+    ) -> Result<u64, Memory> {
+        self.processes.start(decider, number, old, new)
+    }
+
+    fn revise<D: Decider, L: Ledger>(&mut self, decider: &D, k: u64, steps: &mut Steps<L>) -> u64 {
+        self.processes.revise(decider, k, steps)
+    }
+
+    fn left(&self) -> u64 {
+        self.processes.left()
+    }
+
+    fn settle(&mut self) {
+        self.processes.settle();
+    }
+
+    ghost honest = { λ d at caller call number version. honest_answer d at caller call number version };
+
+    ghost are_stale = { λ d core fits. stale_as_defined d core fits };
+
+    ghost are_named = { λ d core fits. follows_named d core fits };
+}
