@@ -1,0 +1,12 @@
+use access_vectors::Vector;
+use flask_sid::Sid;
+
+/// What a slot is filled with: a port, the identifiers of the client and of the port, and a mode, under a policy number.
+#[derive(Clone, Copy, Debug)]
+pub struct Filling {
+    pub port: u32,
+    pub s: Sid,
+    pub t: Sid,
+    pub mode: Vector,
+    pub number: u32,
+}
