@@ -1,0 +1,314 @@
+-- How managers stand as they are asked whether they acknowledge, and as a number is complete.
+use Rattle.std.proofs.Common.{◌≡◌, ℕ, zero, suc, ◌-◌, ◌<◌, Bool, true, false, List, [], ◌∷◌, ◌++◌, length, take, replicate, Option, Some, None, refl, sym, ap, subst, ◌∙◌, arith}
+use Rattle.std.specs.Prelude.{slice_get, ◌==◌, nat_lt, not, ◌&&◌, if◌then◌else◌, IfSome}
+use Rattle.std.specs.List.{Contains, list_all}
+use Rattle.std.proofs.lemmas.List.Elements.{Contains-push}
+use Rattle.std.proofs.lemmas.Option.{slice_get_within}
+use Rattle.std.proofs.lemmas.Bool.Decides.{nat_tests}
+use Rattle.access_vectors.specs.Decisions.{Decisions}
+use Rattle.access_vectors.specs.Phases.{number_of, is_pending}
+use Rattle.access_vectors.specs.declared.phase.Phase.{Phase}
+use Rattle.access_vectors.specs.declared.phase.Phase.TheVariants.{Settled, Pending}
+use Rattle.manager_history.specs.Kept.{is_done, ack_answer}
+use Rattle.manager_history.specs.declared.answers.Ack.{Ack}
+use Rattle.manager_history.specs.declared.answers.Ack.TheVariants as acks
+use Rattle.managed.specs.Seen.{Seen, IsGrown, IsAcknowledged}
+use Rattle.managed.specs.declared.managed.Event.TheVariants.{Acknowledgement}
+use Rattle.security_server.specs.Numbering.{Kept, is_in, pending_of, receipt_fault, is_complete, are_all_in, completed}
+use Rattle.change_protocol.specs.Changes.{AreAll, MayBeIn, IsPlaced, IsLed, IsExpected, IsSameServer, IsAskedUnless, IsRound, IfComplete, phase_at, said_of, is_kept, is_idle, ack_all_answer}
+use Rattle.change_protocol.specs.declared.answers.Said.{Said}
+use Rattle.change_protocol.specs.declared.answers.AckAll.{AckAll}
+use Rattle.change_protocol.specs.declared.answers.AckAll.TheVariants as acking
+use Rattle.change_protocol.proofs.Placing.{all_back}
+use Rattle.change_protocol.proofs.Receipts.{none_in, all_in_kept}
+use Rattle.change_protocol.proofs.Noticing.{differ}
+
+-- where something is pending
+pub pending_at : (phase : Phase) (pair : ℕ × ℕ) → pending_of phase ≡ Some pair → (old : ℕ) × (phase ≡ Pending pair.0 old pair.1)
+pending_at (Settled settled version) pair is = cc
+pending_at (Pending pending old next) pair is =
+    let same : (pending, next) ≡ pair = cc in (old, λ i. Pending (same i).0 old (same i).1)
+
+-- the receipt of a manager is expected where it is not in
+expected_at : {Decider : Type 0} (decider : Decider) (managers most : ℕ) (phase : Phase) (receipts : List Bool) (versions reached place : ℕ) (seen : Seen)
+    → (let server : Kept Decider = record { decider = decider; managers = managers; most = most; phase = phase; receipts = receipts } in
+    IsPlaced versions server reached place seen → place < managers → is_in receipts place ≡ false → IsExpected server seen)
+expected_at decider managers most (Settled number version) receipts versions reached place seen placed within out pending =
+    let none : is_pending seen.phase ≡ false = ap is_pending placed.phase in absurd (differ (is_pending seen.phase) pending none)
+expected_at decider managers most (Pending number old new) receipts versions reached place seen placed within out pending =
+    elim (nat_lt place reached) as (λ (b : Bool). nat_lt place reached ≡ b → receipt_fault (record { decider = decider; managers = managers; most = most; phase = Pending number old new; receipts = receipts })
+    (record { manager = seen.manager; number = number_of seen.phase }) ≡ None) [
+      | true ↦ λ is.
+          let at : seen.phase ≡ Pending number old new = rw (is, out) at placed.phase in
+          let registered : nat_lt place managers ≡ true = grind (arith, nat_tests) in
+          let same : (number == number) ≡ true = grind (arith, nat_tests) in
+          rw (at, placed.numbered, registered, same, out) refl
+      | false ↦ λ is.
+          let at : seen.phase ≡ Settled (number - 1) old = rw is at placed.phase in
+          absurd (differ (is_pending seen.phase) pending (ap is_pending at))
+    ] refl
+
+pub expected_each : {Decider Manager : Type 0} (decides : Decider → Decisions) (seen : Manager → Seen) (server : Kept Decider) (xs : List Manager) (reached : ℕ)
+    → IsLed decides seen (record { server = server; managers = xs; reached = reached })
+    → (place : ℕ) → IfSome (slice_get xs place) (λ manager. ((seen manager).manager ≡ place) × (is_in server.receipts place ≡ false → IsExpected server (seen manager)))
+expected_each {Manager = Manager} decides seen server xs reached led place = go (slice_get xs place) (λ x is. is)
+  where
+    go : (there : Option Manager) → ((x : Manager) → there ≡ Some x → slice_get xs place ≡ Some x)
+        → IfSome there (λ manager. ((seen manager).manager ≡ place) × (is_in server.receipts place ≡ false → IsExpected server (seen manager)))
+    go None stands = tt
+    go (Some x) stands =
+        let placed = led.placed place x (stands x refl) in
+        let within : place < length xs = slice_get_within xs place x (stands x refl) in
+        (placed.numbered, expected_at server.decider server.managers server.most server.phase server.receipts _ reached place (seen x) placed (omega (arith, within, led.registered)))
+
+-- a receipt is kept where the manager has acknowledged
+kept_done : (ack : Ack) → is_kept (said_of ack) ≡ is_done ack
+kept_done (acks.Done receipt) = refl
+kept_done (acks.Busy older) = refl
+kept_done (acks.Behind left) = refl
+kept_done acks.Idle = refl
+
+-- a manager with its notice is asked
+asked_reached : (number old new : ℕ) (was now : Seen) (ack : Ack) (done : Bool) → was.phase ≡ Pending number old new → IsAcknowledged was now ack → is_done ack ≡ done
+    → (now.phase ≡ (if done then Settled number new else Pending number old new)) × (done ≡ true → Contains now.history (Acknowledgement number))
+asked_reached number old new was now ack false pending asked is = (rw (is, pending) at asked.phase, λ e. cc)
+asked_reached number old new was now ack true pending asked is = (
+  rw (is, pending) at asked.phase,
+  λ _.
+      let grown : IsGrown _ was.history now.history (Acknowledgement number ∷ []) = rw (is, pending) at asked.history in
+      rw grown.grown (Contains-push (was.history ++ grown.between) (Acknowledgement number)),
+)
+
+-- one without is asked
+asked_unreached : (number old : ℕ) (was now : Seen) (ack : Ack) → was.phase ≡ Settled number old → IsAcknowledged was now ack → (is_done ack ≡ false) × (now.phase ≡ was.phase)
+asked_unreached number old was now ack settled asked =
+    let answer : ack ≡ acks.Idle = rw settled at asked.answer in
+    let done : is_done ack ≡ false = ap is_done answer in
+    (done, rw done at asked.phase)
+
+-- a manager with its notice does not say that it has none
+not_idle : (number old new manager older found : ℕ) (ack : Ack) → ack ≡ ack_answer (Pending number old new) manager older found → is_idle (said_of ack) ≡ false
+not_idle number old new manager older found ack =
+    elim (nat_lt 0 older) as (λ (b : Bool). ack ≡ (if b then acks.Busy older else (if nat_lt 0 found then acks.Behind found else acks.Done (record { manager = manager; number = number }))) → is_idle (said_of ack) ≡ false) [
+      | true ↦ λ is. ap (λ a. is_idle (said_of a)) is
+      | false ↦ elim (nat_lt 0 found) as (λ (b : Bool). ack ≡ (if b then acks.Behind found else acks.Done (record { manager = manager; number = number })) → is_idle (said_of ack) ≡ false) [
+        | true ↦ λ is. ap (λ a. is_idle (said_of a)) is
+        | false ↦ λ is. ap (λ a. is_idle (said_of a)) is
+      ]
+    ]
+
+module _ {Decider Manager : Type 0} (decides : Decider → Decisions) (seen : Manager → Seen) (same : Manager → Manager → Type 0) where
+  -- how a manager stands after the question
+  asked_placed : (versions : ℕ) (server mid : Kept Decider) (number old new reached place : ℕ) (was now : Manager) (said : Said)
+      → server.phase ≡ Pending number old new → IsSameServer server mid → IsPlaced versions server reached place (seen was)
+      → IsRound seen same (is_in server.receipts place) (is_in mid.receipts place) was now said → IsPlaced versions mid reached place (seen now)
+  asked_placed versions server mid number old new reached place was now said pending kept placed round =
+      let at : (seen was).phase ≡ phase_at (Pending number old new) server.receipts reached place = placed.phase ∙ ap (λ p. phase_at p server.receipts reached place) pending in
+      let pending_mid : mid.phase ≡ Pending number old new = kept.phase ∙ pending in
+      elim (is_in server.receipts place) as (λ (b : Bool). is_in server.receipts place ≡ b → IsAskedUnless seen b was now said → IsPlaced versions mid reached place (seen now)) [
+        | true ↦ λ was_in asked.
+            let in_mid : is_in mid.receipts place ≡ true = round.now_in ∙ ap is_kept asked.1 in
+            rw asked.0 (record {
+              numbered = placed.numbered;
+              most = placed.most ∙ sym kept.most;
+              versions_are = placed.versions_are;
+              phase = rw (pending_mid, in_mid) (rw was_in at at);
+              receipt = λ _. rw kept.phase (placed.receipt was_in);
+            })
+        | false ↦ λ out asked.
+            let told : IsAcknowledged (seen was) (seen now) asked.ack = asked.acknowledged in
+            let in_mid : is_in mid.receipts place ≡ is_done asked.ack = round.now_in ∙ ap is_kept asked.said_is ∙ kept_done asked.ack in
+            elim (nat_lt place reached) as (λ (b : Bool). nat_lt place reached ≡ b → IsPlaced versions mid reached place (seen now)) [
+              | true ↦ λ is.
+                  let done = asked_reached number old new (seen was) (seen now) asked.ack (is_done asked.ack) (rw (is, out) at at) told refl in
+                  record {
+                    numbered = told.same.manager ∙ placed.numbered;
+                    most = told.same.most ∙ placed.most ∙ sym kept.most;
+                    versions_are = told.same.versions ∙ placed.versions_are;
+                    phase = rw (pending_mid, is, in_mid) done.0;
+                    receipt = λ there. rw pending_mid (grind (arith, nat_tests), done.1 (sym in_mid ∙ there));
+                  }
+              | false ↦ λ is.
+                  let settled : (seen was).phase ≡ Settled (number - 1) old = rw is at at in
+                  let idle = asked_unreached (number - 1) old (seen was) (seen now) asked.ack settled told in
+                  record {
+                    numbered = told.same.manager ∙ placed.numbered;
+                    most = told.same.most ∙ placed.most ∙ sym kept.most;
+                    versions_are = told.same.versions ∙ placed.versions_are;
+                    phase = rw (pending_mid, is) (idle.1 ∙ settled);
+                    receipt = λ there. absurd (differ (is_done asked.ack) (sym in_mid ∙ there) idle.0);
+                  }
+            ] refl
+      ] refl round.asked
+
+  -- who says that it has no notice
+  idle_at : (versions : ℕ) (server : Kept Decider) (number old new reached place : ℕ) (in_now : Bool) (was now : Manager) (said : Said)
+      → server.phase ≡ Pending number old new → IsPlaced versions server reached place (seen was)
+      → IsRound seen same (is_in server.receipts place) in_now was now said → is_idle said ≡ not (nat_lt place reached)
+  idle_at versions server number old new reached place in_now was now said pending placed round =
+      let at : (seen was).phase ≡ phase_at (Pending number old new) server.receipts reached place = placed.phase ∙ ap (λ p. phase_at p server.receipts reached place) pending in
+      elim (is_in server.receipts place) as (λ (b : Bool). is_in server.receipts place ≡ b → IsAskedUnless seen b was now said → is_idle said ≡ not (nat_lt place reached)) [
+        | true ↦ λ was_in asked.
+            let may : MayBeIn (Pending number old new) reached place (seen was).history = rw pending at placed.receipt was_in in
+            let below : nat_lt place reached ≡ true = grind (arith, nat_tests, may.0) in
+            rw (below, asked.1) refl
+        | false ↦ λ out asked.
+            let told : IsAcknowledged (seen was) (seen now) asked.ack = asked.acknowledged in
+            elim (nat_lt place reached) as (λ (b : Bool). nat_lt place reached ≡ b → is_idle said ≡ not b) [
+              | true ↦ λ is.
+                  let noticed : (seen was).phase ≡ Pending number old new = rw (is, out) at at in
+                  let answer : asked.ack ≡ ack_answer (Pending number old new) (seen was).manager (seen now).shown.older (seen now).shown.found = rw noticed at told.answer in
+                  ap is_idle asked.said_is ∙ not_idle number old new (seen was).manager (seen now).shown.older (seen now).shown.found asked.ack answer
+              | false ↦ λ is.
+                  let settled : (seen was).phase ≡ Settled (number - 1) old = rw is at at in
+                  let answer : asked.ack ≡ acks.Idle = rw settled at told.answer in
+                  ap is_idle asked.said_is ∙ ap (λ a. is_idle (said_of a)) answer
+            ] refl
+      ] refl round.asked
+
+  pub idle_each : (server mid : Kept Decider) (xs ys : List Manager) (said : List Said) (reached number old new : ℕ)
+      → IsLed decides seen (record { server = server; managers = xs; reached = reached }) → server.phase ≡ Pending number old new
+      → ((place : ℕ) → AreAll (IsRound seen same (is_in server.receipts place) (is_in mid.receipts place)) (slice_get xs place) (slice_get ys place) (slice_get said place))
+      → (place : ℕ) → IfSome (slice_get said place) (λ one. is_idle one ≡ not (nat_lt place reached))
+  idle_each server mid xs ys said reached number old new led pending each place =
+      go (slice_get xs place) (slice_get ys place) (slice_get said place) (λ x is. is) (each place)
+    where
+      go : (was now : Option Manager) (there : Option Said) → ((x : Manager) → was ≡ Some x → slice_get xs place ≡ Some x)
+          → AreAll (IsRound seen same (is_in server.receipts place) (is_in mid.receipts place)) was now there
+          → IfSome there (λ one. is_idle one ≡ not (nat_lt place reached))
+      go was now None stands all = tt
+      go None None (Some s) stands all = absurd all
+      go None (Some y) (Some s) stands all = absurd all
+      go (Some x) None (Some s) stands all = absurd all
+      go (Some x) (Some y) (Some s) stands all =
+          idle_at _ server number old new reached place (is_in mid.receipts place) x y s pending (led.placed place x (stands x refl)) all
+
+  -- the server and its managers after all were asked, before the number is complete
+  pub record IsCounted (mid : Kept Decider) (ys : List Manager) (said : List Said) (reached number : ℕ) : Type 0 where
+    pub old : ℕ
+    pub new : ℕ
+    pub pending : mid.phase ≡ Pending number old new
+    pub led : IsLed decides seen (record { server = mid; managers = ys; reached = reached })
+    pub ins : (place : ℕ) (manager : Manager) → slice_get ys place ≡ Some manager → (one : Said) × (slice_get said place ≡ Some one) × (is_in mid.receipts place ≡ is_kept one)
+    pub all_in : is_complete mid number ≡ list_all is_kept said
+
+  pub counted : (server mid : Kept Decider) (xs ys : List Manager) (said : List Said) (reached number old new : ℕ)
+      → IsLed decides seen (record { server = server; managers = xs; reached = reached }) → server.phase ≡ Pending number old new
+      → IsSameServer server mid → length ys ≡ length xs → length said ≡ length xs
+      → ((place : ℕ) → AreAll (IsRound seen same (is_in server.receipts place) (is_in mid.receipts place)) (slice_get xs place) (slice_get ys place) (slice_get said place))
+      → IsCounted mid ys said reached number
+  counted server mid xs ys said reached number old new led pending kept ys_many said_many each =
+      let pending_mid : mid.phase ≡ Pending number old new = kept.phase ∙ pending in
+      record {
+        old = old;
+        new = new;
+        pending = pending_mid;
+        led = record {
+          sound = record {
+            few = omega (arith, kept.managers, led.sound.few);
+            places = kept.places ∙ led.sound.places;
+            numbers = rw (kept.phase, kept.most) led.sound.numbers;
+            versions = rw (kept.phase, kept.decider) led.sound.versions;
+          };
+          registered = ys_many ∙ led.registered ∙ sym kept.managers;
+          within = rw kept.managers led.within;
+          placed = λ place manager is.
+              let back = all_back (IsRound seen same (is_in server.receipts place) (is_in mid.receipts place)) _ _ _ manager (each place) is in
+              subst (λ (d : Decider). IsPlaced (decides d).versions mid reached place (seen manager)) (sym kept.decider)
+              (asked_placed _ server mid number old new reached place back.0 manager back.1 pending kept (led.placed place back.0 back.2) back.4);
+        };
+        ins = λ place manager is. let back = all_back (IsRound seen same (is_in server.receipts place) (is_in mid.receipts place)) _ _ _ manager (each place) is in (back.1, back.3, back.4.now_in);
+        all_in =
+            let same : (number == number) ≡ true = grind (arith, nat_tests) in
+            let many : mid.managers ≡ length said = omega (arith, kept.managers, led.registered, said_many) in
+            let all : are_all_in mid ≡ list_all is_kept said
+            = ap (λ n. list_all (λ is_there. is_there) (take n mid.receipts)) many
+            ∙ all_in_kept mid.receipts said (omega (arith, kept.places, led.sound.places, led.sound.few, led.registered, said_many))
+            (λ place one is. said_in (slice_get xs place) (slice_get ys place) (slice_get said place) place one (each place) is) in
+            rw (pending_mid, same) all;
+      }
+    where
+      said_in : (was now : Option Manager) (there : Option Said) (place : ℕ) (one : Said)
+          → AreAll (IsRound seen same (is_in server.receipts place) (is_in mid.receipts place)) was now there → there ≡ Some one → is_in mid.receipts place ≡ is_kept one
+      said_in None None None place one all is = cc
+      said_in None None (Some s) place one all is = absurd all
+      said_in None (Some y) there place one all is = absurd all
+      said_in (Some x) None there place one all is = absurd all
+      said_in (Some x) (Some y) None place one all is = absurd all
+      said_in (Some x) (Some y) (Some s) place one all is = let same_one : s ≡ one = cc in all.now_in ∙ ap is_kept same_one
+
+  -- what is answered
+  pub counted_answer : (phase : Phase) (mid : Kept Decider) (ys : List Manager) (said : List Said) (reached number : ℕ) (result : AckAll)
+      → IsCounted mid ys said reached number → mid.phase ≡ phase → result ≡ (if is_complete mid number then acking.Complete number else acking.Waiting)
+      → result ≡ ack_all_answer phase said
+  counted_answer phase mid ys said reached number result counted kept is =
+      rw (sym kept ∙ counted.pending) (is ∙ ap (λ (b : Bool). if b then acking.Complete number else acking.Waiting) counted.all_in)
+
+  -- where each receipt is kept, each is in
+  kept_at : (said : List Said) (place : ℕ) (one : Said) → list_all is_kept said ≡ true → slice_get said place ≡ Some one → is_kept one ≡ true
+  kept_at [] place one all is = cc
+  kept_at (first ∷ said) zero one all is = first_of (is_kept first) (list_all is_kept said) all (let same_one : first ≡ one = cc in ap is_kept (sym same_one))
+    where
+      first_of : (a b : Bool) → (a && b) ≡ true → is_kept one ≡ a → is_kept one ≡ true
+      first_of true b all is = is
+      first_of false b all is = cc
+  kept_at (first ∷ said) (suc place) one all is = kept_at said place one (rest_of (is_kept first) (list_all is_kept said) all) is
+    where
+      rest_of : (a b : Bool) → (a && b) ≡ true → b ≡ true
+      rest_of true b all = all
+      rest_of false b all = cc
+
+  -- where the number is complete each manager has its receipt in, has its notice and has acknowledged
+  all_received : (mid : Kept Decider) (ys : List Manager) (said : List Said) (reached number : ℕ) → IsCounted mid ys said reached number → is_complete mid number ≡ true
+      → (place : ℕ) (manager : Manager) → slice_get ys place ≡ Some manager
+      → (is_in mid.receipts place ≡ true) × (place < reached) × Contains (seen manager).history (Acknowledgement number)
+  all_received mid ys said reached number counted complete place manager is =
+      let one = counted.ins place manager is in
+      let there : is_in mid.receipts place ≡ true = one.2 ∙ kept_at said place one.0 (sym counted.all_in ∙ complete) one.1 in
+      let may : MayBeIn (Pending number counted.old counted.new) reached place (seen manager).history = rw counted.pending at (counted.led.placed place manager is).receipt there in
+      (there, may.0, may.1)
+
+  -- how all stand after that
+  pub completed_led : (mid : Kept Decider) (ys : List Manager) (said : List Said) (reached number : ℕ) → IsCounted mid ys said reached number
+      → IsLed decides seen (record { server = completed mid (is_complete mid number); managers = ys; reached = reached })
+  completed_led mid ys said reached number counted =
+      elim (is_complete mid number) as (λ (b : Bool). is_complete mid number ≡ b → IsLed decides seen (record { server = completed mid b; managers = ys; reached = reached })) [
+        | false ↦ λ is. counted.led
+        | true ↦ λ is. record {
+          sound = record {
+            few = counted.led.sound.few;
+            places = refl;
+            numbers = rw counted.pending (rw counted.pending at counted.led.sound.numbers);
+            versions = rw counted.pending (rw counted.pending at counted.led.sound.versions).2;
+          };
+          registered = counted.led.registered;
+          within = counted.led.within;
+          placed = λ place manager stands.
+              let placed = counted.led.placed place manager stands in
+              let received = all_received mid ys said reached number counted is place manager stands in
+              let below : nat_lt place reached ≡ true = grind (arith, nat_tests, received.1) in
+              record {
+                numbered = placed.numbered;
+                most = placed.most;
+                versions_are = placed.versions_are;
+                phase = rw counted.pending (rw (below, received.0) at (rw counted.pending at placed.phase));
+                receipt = λ there. absurd (differ (is_in (replicate 16 false) place) there (none_in 16 place));
+              };
+        }
+      ] refl
+
+  -- a complete number has the acknowledgement of each manager
+  pub complete_history : (mid : Kept Decider) (ys : List Manager) (said : List Said) (reached number : ℕ) (result : AckAll) → IsCounted mid ys said reached number
+      → result ≡ (if is_complete mid number then acking.Complete number else acking.Waiting)
+      → IfComplete result (λ number. (place : ℕ) → IfSome (slice_get ys place) (λ manager. Contains (seen manager).history (Acknowledgement number)))
+  complete_history mid ys said reached number result counted result_is =
+      elim (is_complete mid number) as (λ (b : Bool). is_complete mid number ≡ b → result ≡ (if b then acking.Complete number else acking.Waiting)
+      → IfComplete result (λ number. (place : ℕ) → IfSome (slice_get ys place) (λ manager. Contains (seen manager).history (Acknowledgement number)))) [
+        | false ↦ λ is e. rw e tt
+        | true ↦ λ is e. rw e (λ place. go place is (slice_get ys place) (λ x there. there))
+      ] refl result_is
+    where
+      go : (place : ℕ) → is_complete mid number ≡ true → (there : Option Manager) → ((x : Manager) → there ≡ Some x → slice_get ys place ≡ Some x)
+          → IfSome there (λ manager. Contains (seen manager).history (Acknowledgement number))
+      go place complete None stands = tt
+      go place complete (Some x) stands = (all_received mid ys said reached number counted complete place x (stands x refl)).2

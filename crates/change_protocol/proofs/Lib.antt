@@ -1,0 +1,5 @@
+pub mod Walks
+pub mod Receipts
+pub mod Placing
+pub mod Noticing
+pub mod Acknowledging

@@ -1,0 +1,12 @@
+//! A manager as the administrator of a policy change sees it.
+//!
+//! `Managed` is what the administrator asks of a manager: a notice, updates, an acknowledgement. `Plain` is a manager on one
+//! thread: a keeper, and the passes that its clients hold.
+#![tactic(auto)]
+
+mod administered;
+mod managed;
+mod plain;
+
+pub use managed::{Event, Managed, Shown};
+pub use plain::Plain;

@@ -1,0 +1,307 @@
+ghost use Rattle.std.specs.Prelude.{◌≡◌, ◌+◌, ◌-◌, ◌<◌, ◌≤◌, [], ◌∷◌, ◌++◌, length, take, drop, replicate, min, None, IfOk, IfErr, OnOk, OnErr};
+ghost use Rattle.access_vectors.specs.Asking.{counted};
+ghost use Rattle.access_vectors.specs.Phases.{number_of};
+ghost use Rattle.access_vectors.specs.Stale.{now_following};
+ghost use Rattle.manager_history.specs.Kept.{notice_fault, IsRefusal, ack_answer, is_done};
+ghost use Rattle.managed.specs.Posts;
+
+use crate::managed::Shown;
+use access_vectors::{Decider, Phase, Plainly, Steps};
+use flask_sid::Memory;
+use manager_history::{Ack, Core, Entry, Keeper, NotifyFault, Passes};
+use std::alloc::Global;
+use std::marker::{Brand, Model};
+use std::sync::ledger::{Blank, Ledger};
+
+/// A manager on one thread: its keeper, the passes that its clients hold, and what the last try of a change showed. Contracts
+/// see a record `Stood`.
+#[derive(Drop)]
+pub struct Plain<'d, C: Core, D: Decider> {
+    keeper: Keeper<'d, C, D>,
+    decider: &'d D,
+    passes: Passes,
+    most: u32,
+    tries: u64,
+    shown: Shown,
+}
+
+impl<'d, C: Core, D: Decider> Model for Plain<'d, C, D> {
+    ghost use Rattle.std.specs.Prelude.{◌≡◌, ◌≤◌};
+    ghost use Rattle.access_vectors.specs.Phases.{number_of, AreVersions};
+    ghost use Rattle.managed.specs.Posts.{Stood, AreNamed};
+
+    ghost Value = { Stood C D C.Call C.Reply };
+
+    ghost view = { λ plain. record {
+      keeper = plain.keeper;
+      held = plain.passes;
+      most = plain.most;
+      tries = plain.tries;
+      shown = plain.shown;
+    } };
+
+    ghost invariant = { λ plain. (plain.keeper.decider ≡ plain.decider.now)
+        × AreNamed plain.keeper.phase plain.passes
+        × (number_of plain.keeper.phase ≤ plain.most)
+        × AreVersions (D.decides plain.decider.now).versions plain.keeper.phase };
+}
+
+impl<'d, C: Core, D: Decider> Plain<'d, C, D> {
+    /// A manager with a core at its opening and an empty history, settled at number 0 with version 0. `most` is the last
+    /// policy number that may be made. It takes no memory.
+    pub fn new(alloc: Global, core: C, manager: u8, decider: &'d D, most: u32) -> Plain<'d, C, D>
+        requires fits { C.fits (D.decides decider.now) core }
+        requires opening { C.state core ≡ C.opening core }
+        requires settled { C.phase core ≡ Phase.Settled 0 0 }
+        ensures { result ≡ record {
+          keeper = record { core = core; decider = decider.now; manager = manager; phase = Phase.Settled 0 0; history = [] };
+          held = replicate 64 None;
+          most = most;
+          tries = 0;
+          shown = record { older = 0; found = 0; left = 0 };
+        } }
+    {
+        Plain {
+            keeper: Keeper::new(alloc, core, manager, decider),
+            decider,
+            passes: Passes::new(),
+            most,
+            tries: 0,
+            shown: Shown {
+                older: 0,
+                found: 0,
+                left: 0,
+            },
+        }
+    }
+
+    /// Does a client's call, under its held pass or else a pass of the newest number. After `Memory` all that contracts see
+    /// of it but its core is as before, and so are the core's state and what its slots follow.
+    pub fn call(
+        &mut self,
+        alloc: Global,
+        client: u8,
+        mark: u32,
+        call: C::Call,
+    ) -> Result<C::Reply, Memory>
+        requires formed { C.formed (D.decides self.old.keeper.decider) (C.state self.old.keeper.core) client call }
+        requires client { client < 64 }
+        ensures reply { let post = Posts.post_of C.state C.follows self.old in
+            IfOk result (λ reply. reply ≡ (Posts.answer_on C.plain (D.decides self.old.keeper.decider) post client call).reply) }
+        ensures post { let post = Posts.post_of C.state C.follows self.old in
+            let answer = Posts.answer_on C.plain (D.decides self.old.keeper.decider) post client call in
+            OnOk result (Posts.post_of C.state C.follows self.new ≡ Posts.called C.followed (D.decides self.old.keeper.decider) post client call answer) }
+        ensures added { let post = Posts.post_of C.state C.follows self.old in
+            let asked = (Posts.answer_on C.plain (D.decides self.old.keeper.decider) post client call).asked in
+            IfOk result (λ reply. self.new.keeper.history
+            ≡ self.old.keeper.history ++ Entry.Op client mark call (Posts.acting_number post client) asked reply ∷ []) }
+        ensures post_after_memory { OnErr result (Posts.post_of C.state C.follows self.new ≡ Posts.post_of C.state C.follows self.old) }
+        ensures history_after_memory { OnErr result (self.new.keeper.history ≡ self.old.keeper.history) }
+        ensures decider { self.new.keeper.decider ≡ self.old.keeper.decider }
+        ensures manager { self.new.keeper.manager ≡ self.old.keeper.manager }
+        ensures opening { C.opening self.new.keeper.core ≡ C.opening self.old.keeper.core }
+        ensures most { self.new.most ≡ self.old.most }
+        ensures tries { self.new.tries ≡ self.old.tries }
+        ensures shown { self.new.shown ≡ self.old.shown }
+    {
+        let number = self.acting(client);
+        let version = self.keeper.phase().version_at(number);
+        let mut asker = Plainly::new(self.decider, version);
+        self.keeper
+            .call(alloc, client, mark, call, number, &mut asker)
+    }
+
+    /// Where the change of policy stands.
+    pub fn phase(&self) -> Phase
+        ensures { result ≡ self.now.keeper.phase }
+    {
+        self.keeper.phase()
+    }
+
+    /// The policy number under which a client acts.
+    pub fn acting(&self, client: u8) -> u32
+        requires { client < 64 }
+        ensures { result ≡ Posts.acting_number (Posts.post_of C.state C.follows self.now) client }
+    {
+        match self.passes.held(client) {
+            Some(number) => number,
+            None => self.keeper.phase().number(),
+        }
+    }
+
+    /// A client takes a pass of the newest number, and holds it. One that holds a pass keeps that.
+    pub fn begin(&mut self, client: u8)
+        requires { client < 64 }
+        ensures post { Posts.post_of C.state C.follows self.new ≡ Posts.begun (Posts.post_of C.state C.follows self.old) client }
+        ensures keeper { self.new.keeper ≡ self.old.keeper }
+        ensures most { self.new.most ≡ self.old.most }
+        ensures tries { self.new.tries ≡ self.old.tries }
+        ensures shown { self.new.shown ≡ self.old.shown }
+    {
+        if let None = self.passes.held(client) {
+            let number = self.keeper.phase().number();
+            self.passes.enter(client, number);
+        }
+    }
+
+    /// A client gives its held pass back, if it holds one.
+    pub fn end(&mut self, client: u8)
+        requires { client < 64 }
+        ensures post { Posts.post_of C.state C.follows self.new ≡ Posts.ended (Posts.post_of C.state C.follows self.old) client }
+        ensures keeper { self.new.keeper ≡ self.old.keeper }
+        ensures most { self.new.most ≡ self.old.most }
+        ensures tries { self.new.tries ≡ self.old.tries }
+        ensures shown { self.new.shown ≡ self.old.shown }
+    {
+        if let Some(_number) = self.passes.held(client) {
+            self.passes.leave(client);
+        }
+    }
+
+    /// Begins a change to a version, under the next policy number, which it answers. After a refusal all is as before, but
+    /// that after `Memory` this is said of what contracts see besides the core.
+    pub fn notice(&mut self, alloc: Global, ver: u8) -> Result<u32, NotifyFault>
+        ensures refusals { let versions = (D.decides self.old.keeper.decider).versions in
+            IfErr result (IsRefusal (notice_fault self.old.keeper.phase versions ver self.old.most)) }
+        ensures allowed { let versions = (D.decides self.old.keeper.decider).versions in
+            OnOk result (notice_fault self.old.keeper.phase versions ver self.old.most ≡ None) }
+        ensures number { IfOk result (λ number. number ≡ number_of self.old.keeper.phase + 1) }
+        ensures post { OnOk result (Posts.post_of C.state C.follows self.new ≡ Posts.notified (Posts.post_of C.state C.follows self.old) ver) }
+        ensures added { IfOk result (λ number. self.new.keeper.history ≡ self.old.keeper.history ++ Entry.Notice number ver ∷ []) }
+        ensures post_after_refusal { OnErr result (Posts.post_of C.state C.follows self.new ≡ Posts.post_of C.state C.follows self.old) }
+        ensures history_after_refusal { OnErr result (self.new.keeper.history ≡ self.old.keeper.history) }
+        ensures decider { self.new.keeper.decider ≡ self.old.keeper.decider }
+        ensures manager { self.new.keeper.manager ≡ self.old.keeper.manager }
+        ensures opening { C.opening self.new.keeper.core ≡ C.opening self.old.keeper.core }
+        ensures most { self.new.most ≡ self.old.most }
+        ensures tries { self.new.tries ≡ self.old.tries }
+        ensures shown { self.new.shown ≡ self.old.shown }
+    {
+        self.keeper.notify(alloc, ver, self.most)
+    }
+
+    /// Lets the first `k` stale slots, or all where they are fewer, follow the pending number, and answers how many are left:
+    /// 0 where nothing is pending. It takes no memory.
+    pub fn revise(&mut self, k: u64) -> u64
+        ensures left { let post = Posts.post_of C.state C.follows self.old in
+            let stale = Posts.stale_on (D.decides self.old.keeper.decider) C.class C.pair_of post in
+            result ≡ length (drop k stale) }
+        ensures post { let post = Posts.post_of C.state C.follows self.old in
+            let stale = Posts.stale_on (D.decides self.old.keeper.decider) C.class C.pair_of post in
+            Posts.post_of C.state C.follows self.new ≡ Posts.updated post stale k }
+        ensures remaining { let post = Posts.post_of C.state C.follows in
+            let stale = Posts.stale_on (D.decides self.old.keeper.decider) C.class C.pair_of in
+            stale (post self.new) ≡ drop k (stale (post self.old)) }
+        ensures shown { let post = Posts.post_of C.state C.follows self.old in
+            let stale = Posts.stale_on (D.decides self.old.keeper.decider) C.class C.pair_of post in
+            self.new.shown ≡ record { older = 0; found = length stale; left = length (drop k stale) } }
+        ensures tries { self.new.tries ≡ counted self.old.tries }
+        ensures history { self.new.keeper.history ≡ self.old.keeper.history }
+        ensures decider { self.new.keeper.decider ≡ self.old.keeper.decider }
+        ensures manager { self.new.keeper.manager ≡ self.old.keeper.manager }
+        ensures opening { C.opening self.new.keeper.core ≡ C.opening self.old.keeper.core }
+        ensures most { self.new.most ≡ self.old.most }
+    {
+        let found = count_stale(&mut self.keeper);
+        let left = revise_slots(&mut self.keeper, k);
+        self.tries = self.tries.saturating_add(1);
+        self.shown = Shown {
+            older: 0,
+            found,
+            left,
+        };
+        left
+    }
+
+    /// Acknowledges the pending number, where no pass below it is held and no slot is stale. It takes no memory.
+    pub fn settle(&mut self) -> Ack
+        ensures answer { let post = Posts.post_of C.state C.follows self.old in
+            let stale = Posts.stale_on (D.decides self.old.keeper.decider) C.class C.pair_of post in
+            result ≡ ack_answer self.old.keeper.phase self.old.keeper.manager (Posts.older_on post) (length stale) }
+        ensures post { Posts.post_of C.state C.follows self.new ≡ Posts.settled_if (Posts.post_of C.state C.follows self.old) (is_done result) }
+        ensures shown { let post = Posts.post_of C.state C.follows self.old in
+            let stale = Posts.stale_on (D.decides self.old.keeper.decider) C.class C.pair_of post in
+            self.new.shown ≡ Posts.shown_after self.old.keeper.phase self.old.shown (Posts.older_on post) (length stale) }
+        ensures tries { self.new.tries ≡ Posts.tries_after self.old.keeper.phase self.old.tries }
+        ensures history { self.new.keeper.history ≡ self.old.keeper.history ++ Posts.added_by self.old.keeper.phase (is_done result) }
+        ensures decider { self.new.keeper.decider ≡ self.old.keeper.decider }
+        ensures manager { self.new.keeper.manager ≡ self.old.keeper.manager }
+        ensures opening { C.opening self.new.keeper.core ≡ C.opening self.old.keeper.core }
+        ensures most { self.new.most ≡ self.old.most }
+    {
+        let Phase::Pending { number, .. } = self.keeper.phase() else {
+            return Ack::Idle;
+        };
+        let older = self.passes.older(number);
+        let found = count_stale(&mut self.keeper);
+        self.tries = self.tries.saturating_add(1);
+        self.shown = Shown {
+            older,
+            found,
+            left: found,
+        };
+        self.keeper.acknowledge(older)
+    }
+}
+
+/// How many slots of a keeper are stale. An update of no slot answers that, and all else stays.
+fn count_stale<C: Core, D: Decider>(keeper: &mut Keeper<'_, C, D>) -> u64
+    ensures found { result ≡ length (Posts.stale_of (D.decides keeper.old.decider) C.class C.pair_of C.state C.follows keeper.old) }
+    ensures stale { result ≡ length (C.stale keeper.new.core) }
+    ensures follows { C.follows keeper.new.core ≡ C.follows keeper.old.core }
+    ensures state { C.state keeper.new.core ≡ C.state keeper.old.core }
+    ensures history { keeper.new.history ≡ keeper.old.history }
+    ensures phase { keeper.new.phase ≡ keeper.old.phase }
+    ensures decider { keeper.new.decider ≡ keeper.old.decider }
+    ensures manager { keeper.new.manager ≡ keeper.old.manager }
+    ensures opening { C.opening keeper.new.core ≡ C.opening keeper.old.core }
+{
+    revise_slots(keeper, 0)
+}
+
+/// Lets the first `k` stale slots of a keeper follow the pending number, and answers how many are left.
+fn revise_slots<C: Core, D: Decider>(keeper: &mut Keeper<'_, C, D>, k: u64) -> u64
+    ensures left { let stale = Posts.stale_of (D.decides keeper.old.decider) C.class C.pair_of C.state C.follows keeper.old in
+        result ≡ length (drop k stale) }
+    ensures stale { result ≡ length (C.stale keeper.new.core) }
+    ensures remaining { let stale = Posts.stale_of (D.decides keeper.old.decider) C.class C.pair_of C.state C.follows in
+        stale keeper.new ≡ drop k (stale keeper.old) }
+    ensures follows { let stale = Posts.stale_of (D.decides keeper.old.decider) C.class C.pair_of C.state C.follows keeper.old in
+        C.follows keeper.new.core ≡ now_following (take k stale) (number_of keeper.old.phase) (C.follows keeper.old.core) }
+    ensures state { C.state keeper.new.core ≡ C.state keeper.old.core }
+    ensures history { keeper.new.history ≡ keeper.old.history }
+    ensures phase { keeper.new.phase ≡ keeper.old.phase }
+    ensures decider { keeper.new.decider ≡ keeper.old.decider }
+    ensures manager { keeper.new.manager ≡ keeper.old.manager }
+    ensures opening { C.opening keeper.new.core ≡ C.opening keeper.old.core }
+{
+    // The clauses of `entries` say that the keeper's stale slots are those of the definition.
+    let _before = keeper.entries();
+    let left = update_counted::<C, D, Brand>(keeper, k, Blank::new(1));
+    let _after = keeper.entries();
+    left
+}
+
+/// The same, under a ledger: the blank's, which counts the steps, of which there is at most one for each of these slots.
+fn update_counted<C: Core, D: Decider, L: Ledger>(
+    keeper: &mut Keeper<'_, C, D>,
+    k: u64,
+    blank: Blank,
+) -> u64
+    requires name { blank.name ≡ L.name }
+    requires parts { blank.parts ≡ L.parts }
+    requires some { 0 < L.parts }
+    ensures left { result ≡ length (C.stale keeper.new.core) }
+    ensures stale { C.stale keeper.new.core ≡ drop k (C.stale keeper.old.core) }
+    ensures follows { C.follows keeper.new.core
+        ≡ now_following (take k (C.stale keeper.old.core)) (number_of keeper.old.phase) (C.follows keeper.old.core) }
+    ensures state { C.state keeper.new.core ≡ C.state keeper.old.core }
+    ensures history { keeper.new.history ≡ keeper.old.history }
+    ensures phase { keeper.new.phase ≡ keeper.old.phase }
+    ensures decider { keeper.new.decider ≡ keeper.old.decider }
+    ensures manager { keeper.new.manager ≡ keeper.old.manager }
+    ensures opening { C.opening keeper.new.core ≡ C.opening keeper.old.core }
+{
+    let mut steps = Steps::<L>::new(blank);
+    keeper.update(k, &mut steps)
+}
