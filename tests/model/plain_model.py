@@ -4,8 +4,8 @@
     tests/model/plain_model.py < SESSION          prints the answer
     tests/model/plain_model.py --write FOLDER     writes NAME.out beside each NAME.in of a folder
 
-It knows the whole policy language and those session lines that are built. Decisions walk the lines, contexts are tuples,
-and a slot keeps the policy number that it follows, from which the stale slots are counted anew at each line.
+It knows the whole policy language and every session line but `audit`. Decisions walk the lines, contexts are tuples, and a
+slot keeps the policy number that it follows, from which the stale slots are counted anew at each line.
 """
 
 import pathlib
@@ -19,6 +19,7 @@ CLASSES = {
     "security": "load_policy".split(),
 }
 MODES = {"r": "read", "w": "write", "a": "append"}
+PORT_MODES = {"b": ["name_bind"], "br": ["name_bind", "recv"], "c": ["connect"], "cs": ["send", "connect"]}
 
 
 def words_of(text):
@@ -71,8 +72,10 @@ class Policy:
         return allowed
 
     def label(self, version, s, t, name):
-        """The label of a new object of a class other than process."""
+        """The label of a new object of a class."""
         lines = list(self.matching(version, ("transition",), s[2], t[2], name))
+        if name == "process":
+            return (s[0], s[1], lines[-1][4] if lines else s[2])
         return (s[0], "object_r", lines[-1][4] if lines else t[2])
 
     def member(self, version, s, t, name):
@@ -94,8 +97,75 @@ class Node:
         return sorted(name for under, name in self.entries if under == key)
 
 
+class Process:
+    """A process, which runs while it has no code."""
+
+    def __init__(self, label, parent):
+        self.label, self.parent, self.code, self.register = label, parent, None, 0
+
+
+class Port:
+    """A bound port, and the messages that wait there."""
+
+    def __init__(self, number, label):
+        self.number, self.label, self.messages = number, label, []
+
+
+class Slot:
+    """What a client's slot holds: an object, permissions, and the policy number that it follows."""
+
+    def __init__(self, held, perms, follows):
+        self.held, self.perms, self.follows = held, perms, follows
+
+
 class Refused(Exception):
     """A call that ends with this reply."""
+
+
+class Manager:
+    """Where a manager's change of policy stands, which passes are held, and its slots."""
+
+    def __init__(self, session, kind):
+        self.session, self.kind = session, kind
+        self.number, self.old, self.new, self.pending = 0, 0, 0, False
+        self.held, self.slots = {}, {}
+
+    def version(self, number):
+        return self.old if self.pending and number < self.number else self.new
+
+    def stale(self):
+        """The stale slots, least client and then least slot first."""
+        order, policy = list(self.session.clients), self.session.policy
+        found = []
+        for (client, slot), held in self.slots.items():
+            if self.pending and held.follows == self.number - 1:
+                pair = (self.session.clients[client], held.held.label, self.kind)
+                if policy.vector(self.old, *pair) != policy.vector(self.new, *pair):
+                    found.append((order.index(client), slot, client))
+        return [(client, slot) for _, slot, client in sorted(found)]
+
+    def notify(self, version):
+        self.number, self.old, self.new, self.pending = self.number + 1, self.new, version, True
+
+    def update(self, k):
+        for place in self.stale()[:k]:
+            self.slots[place].follows = self.number
+        return str(len(self.stale()))
+
+    def acknowledge(self):
+        older = sum(number < self.number for number in self.held.values())
+        if self.pending and older:
+            return f"busy:{older}"
+        if self.stale():
+            return f"behind:{len(self.stale())}"
+        if self.pending:
+            self.pending = False
+            for slot in self.slots.values():
+                slot.follows = self.number
+        return "kept"
+
+    def free(self, held):
+        self.slots = {place: slot for place, slot in self.slots.items() if slot.held is not held}
 
 
 class Session:
@@ -103,7 +173,7 @@ class Session:
 
     def __init__(self, text):
         self.policy, self.clients, self.runs = Policy(), {}, []
-        part, nodes, root = "policy", [], None
+        part, nodes, self.initial, self.labels = "policy", [], {}, {}
         for number, words in words_of(text):
             if words in (["session"], ["run"]) and part != "run":
                 part = words[0]
@@ -113,15 +183,17 @@ class Session:
                 self.runs.append((number, words))
             elif words[0] in ("dir", "file"):
                 nodes.append(words)
-            elif words[:2] == ["initial", "root"]:
-                root = context_of(words[2])
+            elif words[0] == "initial":
+                self.initial[words[1]] = context_of(words[2])
+            elif words[0] == "port":
+                self.labels[int(words[1])] = context_of(words[2])
             elif words[0] == "client":
                 self.clients[words[1]] = context_of(words[2])
-        self.root, self.nodes = Node(root or self.policy.contexts[0]), 1
+        self.root, self.nodes = Node(self.initial.get("root", self.policy.contexts[0])), 1
         for kind, path, context, *data in nodes:
             self.lay(names_of(path), Node(context_of(context), None if kind == "dir" else "".join(data)))
-        self.number, self.old, self.new, self.pending = 0, 0, 0, False
-        self.held, self.slots = {}, {}
+        self.processes, self.ports = {}, {}
+        self.managers = {kind: Manager(self, kind) for kind in ("file", "process", "port")}
         self.calls = self.denied = self.changes = 0
 
     def lay(self, names, node):
@@ -131,33 +203,46 @@ class Session:
         at.entries[None, names[-1]] = node
         self.nodes += 1
 
-    def version(self, number):
-        return self.old if self.pending and number < self.number else self.new
-
-    def stale(self):
-        """The stale slots, least client and then least slot first."""
-        order = list(self.clients)
-        found = []
-        for (client, slot), (node, _mode, follows) in self.slots.items():
-            if self.pending and follows == self.number - 1:
-                pair = (self.clients[client], node.label, "file")
-                if self.policy.vector(self.old, *pair) != self.policy.vector(self.new, *pair):
-                    found.append((order.index(client), slot, client))
-        return [(client, slot) for _, slot, client in sorted(found)]
+    def port_label(self, number):
+        return self.labels.get(number, self.initial.get("port", self.policy.contexts[0]))
 
 
 class Call:
-    """One call of a client, under the policy number of its pass."""
+    """One call of a client on a manager, under the policy number of its pass."""
 
-    def __init__(self, session, client, number):
-        self.session, self.client, self.number = session, client, number
-        self.subject, self.version = session.clients[client], session.version(number)
+    def __init__(self, session, manager, client, number):
+        self.session, self.manager, self.client, self.number = session, manager, client, number
+        self.subject, self.version = session.clients[client], manager.version(number)
 
     def ask(self, label, name, *perms, subject=None):
         vector = self.session.policy.vector(self.version, subject or self.subject, label, name)
         for perm in perms:
             if perm not in vector:
                 raise Refused(f"denied {name} {perm}")
+
+    def test(self, refused, reply):
+        if refused:
+            raise Refused(reply)
+
+    def place(self, slot, client=None):
+        return client or self.client, int(slot)
+
+    def slot(self, slot):
+        self.test(self.place(slot) not in self.manager.slots, "badslot")
+        return self.manager.slots[self.place(slot)]
+
+    def fill(self, slot, held, perms, client=None):
+        self.manager.slots[self.place(slot, client)] = Slot(held, perms, self.number)
+        return "done"
+
+    def leave(self, slot):
+        self.slot(slot)
+        del self.manager.slots[self.place(slot)]
+        return "done"
+
+
+class FileCall(Call):
+    """A call of the file manager."""
 
     def key(self, directory):
         member = self.session.policy.member(self.version, self.subject, directory.label, "dir")
@@ -202,27 +287,18 @@ class Call:
         return self.make(path, "file", "")
 
     def open(self, slot, path, mode):
-        if (self.client, int(slot)) in self.session.slots:
-            return "slotused"
+        self.test(self.place(slot) in self.manager.slots, "slotused")
         _above, _place, node = self.found(path)
-        if node.kind == "dir":
-            return "isdir"
+        self.test(node.kind == "dir", "isdir")
         perms = [MODES[letter] for letter in "rwa" if letter in mode]
         self.ask(node.label, "file", *perms)
-        self.session.slots[self.client, int(slot)] = [node, perms, self.number]
-        return "done"
-
-    def slot(self, slot):
-        if (self.client, int(slot)) not in self.session.slots:
-            raise Refused("badslot")
-        return self.session.slots[self.client, int(slot)]
+        return self.fill(slot, node, perms)
 
     def used(self, slot, perm):
-        node, perms, _follows = self.slot(slot)
-        if perm not in perms:
-            raise Refused("badmode")
-        self.ask(node.label, "file", perm)
-        return node
+        slot = self.slot(slot)
+        self.test(perm not in slot.perms, "badmode")
+        self.ask(slot.held.label, "file", perm)
+        return slot.held
 
     def read(self, slot, offset, length):
         data = self.used(slot, "read").data[int(offset) :][: int(length)]
@@ -243,9 +319,7 @@ class Call:
         return "done"
 
     def close(self, slot):
-        self.slot(slot)
-        del self.session.slots[self.client, int(slot)]
-        return "done"
+        return self.leave(slot)
 
     def unlink(self, path):
         above, place, node = self.found(path)
@@ -256,8 +330,7 @@ class Call:
             return "notempty"
         del above.entries[place]
         self.session.nodes -= 1
-        slots = self.session.slots
-        self.session.slots = {place: slot for place, slot in slots.items() if slot[0] is not node}
+        self.manager.free(node)
         return "done"
 
     def list(self, path, skip):
@@ -279,64 +352,215 @@ class Call:
         self.ask(node.label, node.kind, "relabelfrom")
         self.ask(context_of(context), node.kind, "relabelto")
         node.label = context_of(context)
-        for slot in self.session.slots.values():
-            if slot[0] is node:
-                slot[2] = self.number
+        for slot in self.manager.slots.values():
+            if slot.held is node:
+                slot.follows = self.number
         return "done"
 
     def give(self, slot, receiver, target):
-        node, perms, _follows = self.slot(slot)
-        if (receiver, int(target)) in self.session.slots:
-            return "slotused"
-        self.ask(node.label, "file", *perms, subject=self.session.clients[receiver])
-        self.session.slots[receiver, int(target)] = [node, perms, self.number]
+        slot = self.slot(slot)
+        self.test(self.place(target, receiver) in self.manager.slots, "slotused")
+        self.ask(slot.held.label, "file", *slot.perms, subject=self.session.clients[receiver])
+        return self.fill(target, slot.held, slot.perms, receiver)
+
+
+class ProcessCall(Call):
+    """A call of the process manager."""
+
+    def found(self, pid):
+        self.test(int(pid) not in self.session.processes, "noprocess")
+        return self.session.processes[int(pid)]
+
+    def child(self, pid):
+        process = self.found(pid)
+        self.test(process.parent != self.client, "notchild")
+        return process
+
+    def running(self, process):
+        self.test(process.code is not None, "ended")
+        return process
+
+    def become(self, before, label):
+        if label != before:
+            self.ask(label, "process", "transition")
+
+    def fork(self, pid):
+        self.ask(self.subject, "process", "fork")
+        label = self.session.policy.label(self.version, self.subject, self.subject, "process")
+        self.become(self.subject, label)
+        self.test(int(pid) in self.session.processes, "exists")
+        self.test(len(self.session.processes) >= 4096, "toomany")
+        self.session.processes[int(pid)] = Process(label, self.client)
         return "done"
+
+    def exec(self, pid, context):
+        process = self.running(self.child(pid))
+        label = self.session.policy.label(self.version, process.label, context_of(context), "process")
+        self.become(process.label, label)
+        process.label = label
+        for slot in self.manager.slots.values():
+            if slot.held is process:
+                slot.follows = self.number
+        return "done"
+
+    def signal(self, pid, number):
+        process = self.running(self.found(pid))
+        self.ask(process.label, "process", "signal")
+        if int(number) == 9:
+            process.code = 137
+        else:
+            process.register = int(number)
+        return "done"
+
+    def exit(self, pid, code):
+        process = self.running(self.child(pid))
+        self.ask(process.label, "process", "exit")
+        process.code = int(code)
+        return "done"
+
+    def wait(self, pid):
+        process = self.child(pid)
+        self.ask(process.label, "process", "wait")
+        self.test(process.code is None, "running")
+        del self.session.processes[int(pid)]
+        self.manager.free(process)
+        return f"num {process.code}"
+
+    def attach(self, slot, pid):
+        self.test(self.place(slot) in self.manager.slots, "slotused")
+        process = self.running(self.found(pid))
+        self.ask(process.label, "process", "ptrace", "getattr")
+        return self.fill(slot, process, ["ptrace", "getattr"])
+
+    def used(self, slot):
+        process = self.slot(slot).held
+        self.ask(process.label, "process", "ptrace", "getattr")
+        return self.running(process)
+
+    def peek(self, slot):
+        return f"num {self.used(slot).register}"
+
+    def poke(self, slot, value):
+        self.used(slot).register = int(value)
+        return "done"
+
+    def detach(self, slot):
+        return self.leave(slot)
+
+    def stat(self, pid):
+        process = self.found(pid)
+        self.ask(process.label, "process", "getattr")
+        return f"stat {':'.join(process.label)} {self.running(process).register}"
+
+
+class PortCall(Call):
+    """A call of the port manager."""
+
+    def found(self, number):
+        self.test(int(number) not in self.session.ports, "noport")
+        return self.session.ports[int(number)]
+
+    def bind(self, slot, number, mode):
+        self.test(self.place(slot) in self.manager.slots, "slotused")
+        self.test(int(number) in self.session.ports, "taken")
+        port = Port(int(number), self.session.port_label(int(number)))
+        self.ask(port.label, "port", *PORT_MODES[mode])
+        self.session.ports[port.number] = port
+        return self.fill(slot, port, PORT_MODES[mode])
+
+    def connect(self, slot, number, mode):
+        self.test(self.place(slot) in self.manager.slots, "slotused")
+        port = self.found(number)
+        self.ask(port.label, "port", *PORT_MODES[mode])
+        return self.fill(slot, port, PORT_MODES[mode])
+
+    def used(self, slot, perm):
+        slot = self.slot(slot)
+        self.test(perm not in slot.perms, "badmode")
+        self.ask(slot.held.label, "port", *slot.perms)
+        return slot.held
+
+    def recv(self, slot):
+        port = self.used(slot, "recv")
+        self.test(not port.messages, "empty")
+        message = port.messages.pop(0)
+        return f"data {len(message)} {message}"
+
+    def put(self, port, message):
+        self.test(len(message) > 256, "toobig")
+        self.test(len(port.messages) >= 16, "full")
+        port.messages.append(message)
+        return "done"
+
+    def push(self, slot, message):
+        return self.put(self.used(slot, "send"), message)
+
+    def send(self, number, message):
+        port = self.found(number)
+        self.ask(port.label, "port", "send")
+        return self.put(port, message)
+
+    def unbind(self, slot):
+        held = self.slot(slot)
+        if "name_bind" not in held.perms:
+            return self.leave(slot)
+        del self.session.ports[held.held.number]
+        self.manager.free(held.held)
+        return "done"
+
+    def stat(self, number):
+        port = self.found(number)
+        self.ask(port.label, "port", "getattr")
+        return f"stat {':'.join(port.label)} {len(port.messages)}"
+
+
+CALLS = {"file": FileCall, "process": ProcessCall, "port": PortCall}
 
 
 class Run(Session):
     """The lines of a session, run one after another."""
 
     def client_line(self, client, words):
-        number = self.held.get(client, self.number)
+        manager = self.managers[words[0]]
+        number = manager.held.get(client, manager.number)
         if words[1] == "begin":
-            self.held[client] = number
+            manager.held[client] = number
             return f"{number} begun"
         if words[1] == "end":
-            del self.held[client]
+            del manager.held[client]
             return f"{number} ended"
         self.calls += 1
         try:
-            reply = getattr(Call(self, client, number), words[1])(*words[2:])
+            reply = getattr(CALLS[words[0]](self, manager, client, number), words[1])(*words[2:])
         except Refused as refused:
             reply = str(refused)
         self.denied += reply.startswith("denied")
         return f"{number} {reply}"
 
+    def is_changing(self):
+        return any(manager.pending for manager in self.managers.values())
+
     def notify(self, version):
-        if self.pending:
-            return f"pending {self.number}"
+        newest = self.managers["file"].number
+        if self.is_changing():
+            return f"pending {newest}"
         if version >= len(self.policy.versions):
             return "noversion"
-        self.number, self.old, self.new, self.pending = self.number + 1, self.new, version, True
-        return f"notified {self.number}"
+        for manager in self.managers.values():
+            manager.notify(version)
+        return f"notified {newest + 1}"
 
     def update(self, k):
-        for place in self.stale()[:k]:
-            self.slots[place][2] = self.number
-        return f"updated {len(self.stale())} 0 0"
+        return " ".join(["updated", *(manager.update(k) for manager in self.managers.values())])
 
     def acknowledge(self):
-        if not self.pending:
+        if not self.is_changing():
             return "idle"
-        older = sum(number < self.number for number in self.held.values())
-        if older:
-            return f"waiting busy:{older} kept kept"
-        if self.stale():
-            return f"waiting behind:{len(self.stale())} kept kept"
-        self.pending, self.changes = False, self.changes + 1
-        for slot in self.slots.values():
-            slot[2] = self.number
-        return f"complete {self.number}"
+        items = [manager.acknowledge() for manager in self.managers.values()]
+        if self.is_changing():
+            return " ".join(["waiting", *items])
+        self.changes += 1
+        return f"complete {self.managers['file'].number}"
 
     def admin_line(self, words):
         if words[0] == "notify":
@@ -350,7 +574,7 @@ class Run(Session):
                 lines.append(f"{number} admin {self.admin_line(words[1:])}")
             else:
                 said = self.client_line(words[0], words[1:])
-                lines.append(f"{number} {words[0]} file {said}")
+                lines.append(f"{number} {words[0]} {words[1]} {said}")
         lines.append(f"calls {self.calls} denied {self.denied} changes {self.changes}")
         return "\n".join(lines) + "\n"
 

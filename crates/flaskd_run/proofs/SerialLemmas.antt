@@ -1,29 +1,42 @@
 -- Running the lines one after another.
-use Rattle.std.proofs.Common.{◌≡◌, ◌<◌, ◌≤◌, ◌+◌, ℕ, zero, suc, Bool, true, false, List, [], ◌∷◌, ◌++◌, length, All, Option, None, Some, Result, Ok, Err, refl, sym, ap, ◌∙◌, arith, IsTrue, append_assoc}
-use Rattle.std.specs.Prelude.{IfSome, is_some, OnOk, OnErr, unwrap_or, nat_lt, nat_le, ◌&&◌}
+use Rattle.std.proofs.Common.{◌≡◌, ◌<◌, ◌≤◌, ◌+◌, ℕ, zero, suc, Bool, true, false, List, [], ◌∷◌, ◌++◌, length, map, All, Option, None, Some, Result, Ok, Err, refl, sym, ap, ◌∙◌, arith, IsTrue, append_assoc}
+use Rattle.std.specs.Prelude.{IfSome, OnOk, OnErr, unwrap_or, nat_lt, nat_le, ◌&&◌, ◌||◌, if◌then◌else◌}
 use Rattle.std.proofs.lemmas.Bool.Decides.{nat_tests}
 use Rattle.std.proofs.lemmas.List.{length-append, length-map}
 use Rattle.std.proofs.lemmas.List.Elements.{All-map}
 use Rattle.flask_io.specs.Streams.{Adds}
 use Rattle.access_vectors.specs.Decisions.{Decisions}
-use Rattle.manager_history.specs.Answers.{Denial}
+use Rattle.access_vectors.specs.Phases.{number_of, is_pending, noticed, acknowledged}
+use Rattle.access_vectors.specs.declared.phase.Phase.{Phase}
+use Rattle.access_vectors.specs.declared.phase.Phase.TheVariants.{Settled, Pending}
 use Rattle.manager_history.specs.Kept.{is_done}
+use Rattle.manager_history.specs.declared.answers.NotifyFault.{NotifyFault}
+use Rattle.manager_history.specs.declared.answers.NotifyFault.TheVariants as faults
+use Rattle.managed.specs.Posts.{Post, settled_if}
 use Rattle.policy_text.specs.declared.policy.ContextLine.{ContextLine}
-use Rattle.file_calls.specs.Formed.{IsCall}
-use Rattle.file_calls.specs.Openings.{IsOpening}
-use Rattle.file_calls.specs.Plain.{IsFormed, IsNamed}
+use Rattle.file_calls.specs.Plain as file
+use Rattle.file_calls.specs.Plain.{IsNamed}
+use Rattle.process_calls.specs.Plain as process
+use Rattle.process_calls.specs.States.{ProcessState}
+use Rattle.process_calls.specs.declared.call.ProcessCall.{ProcessCall}
+use Rattle.process_calls.specs.declared.call.ProcessCall.TheVariants as process_call
+use Rattle.port_calls.specs.Plain as port
+use Rattle.port_calls.specs.States.{PortState}
+use Rattle.port_calls.specs.declared.call.PortCall.{PortCall}
 use Rattle.file_calls.specs.States.{FileState}
 use Rattle.file_calls.specs.declared.call.FileCall.{FileCall}
 use Rattle.file_calls.specs.declared.call.FileCall.TheVariants as call
-use Rattle.session_text.specs.Sessions.{IsSession, IsSidOf, IsDeclared, IsRun}
+use Rattle.session_text.specs.Sessions.{IsSession, IsSidOf, IsDeclared, IsDeclaredProcess, IsRun}
+use Rattle.session_text.specs.declared.run_forms.Manager.TheVariants as manager
 use Rattle.session_text.specs.declared.session.ClientLine.{ClientLine}
 use Rattle.session_text.specs.declared.session.SessionParts.{SessionParts}
 use Rattle.session_text.specs.declared.session.Run.{Run}
 use Rattle.session_text.specs.declared.session.Run.TheVariants as run
 use Rattle.session_text.specs.declared.session.RunLine.{RunLine}
-use Rattle.file_calls.specs.declared.opening.FileOpening.{FileOpening}
-use Rattle.flaskd_run.specs.Desks.{Standing}
-use Rattle.flaskd_run.specs.Serial.{Day, counted_denial, day_after, day_acknowledged, line_text, lines_text, opening_of, morning_of, text_on, ack_on}
+use Rattle.session_desk.specs.Days.{Day, morning_of, refusal_of, day_notified, counted_change, is_complete, is_changing, file_ack, process_ack, port_ack}
+use Rattle.session_desk.specs.Desks.{Standing, AreOpenings, HasClients, IsInStep, IsSameOpening}
+use Rattle.session_desk.specs.declared.opening.Openings.{Openings}
+use Rattle.flaskd_run.specs.Serial.{day_after, line_text, lines_text, openings_of, text_on}
 use Rattle.policy_text.specs.declared.policy.PolicyParts.{PolicyParts}
 use Rattle.policy_versions.specs.Closure.{AreContexts, declared_contexts}
 use Rattle.policy_versions.specs.Judging.{decisions_of}
@@ -72,22 +85,105 @@ no_items (x ∷ xs) none = absurd (omega arith)
 -- a line counts at most one call
 pub calls_after : (d : Decisions) (day : Day) (asks : Run) → (day_after d day asks).calls ≤ day.calls + 1
 calls_after d day (run.File client call) = omega arith
-calls_after d day (run.Begin client) = omega arith
-calls_after d day (run.End client) = omega arith
-calls_after d day (run.Notify version) = omega arith
+calls_after d day (run.Process client call) = omega arith
+calls_after d day (run.Port client call) = omega arith
+calls_after d day (run.Begin client manager.File) = omega arith
+calls_after d day (run.Begin client manager.Process) = omega arith
+calls_after d day (run.Begin client manager.Port) = omega arith
+calls_after d day (run.End client manager.File) = omega arith
+calls_after d day (run.End client manager.Process) = omega arith
+calls_after d day (run.End client manager.Port) = omega arith
+calls_after d day (run.Notify version) = noticed_calls (refusal_of d day version)
+  where
+    noticed_calls : (refusal : Option NotifyFault) → (day_notified day version refusal).calls ≤ day.calls + 1
+    noticed_calls None = omega arith
+    noticed_calls (Some fault) = omega arith
 calls_after d day (run.Update most) = omega arith
-calls_after d day run.Ack =
-    elim (is_done (ack_on d day)) as (λ (b : Bool). (day_acknowledged day b).calls ≤ day.calls + 1) [ true ↦ omega arith | false ↦ omega arith ]
+calls_after d day run.Ack = omega arith
+
+-- one change at most is counted
+change_counted : (complete : Bool) (changes : ℕ) → counted_change complete changes ≤ changes + 1
+change_counted true changes = omega arith
+change_counted false changes = omega arith
 
 -- a line completes at most one change
 pub changes_after : (d : Decisions) (day : Day) (asks : Run) → (day_after d day asks).changes ≤ day.changes + 1
 changes_after d day (run.File client call) = omega arith
-changes_after d day (run.Begin client) = omega arith
-changes_after d day (run.End client) = omega arith
-changes_after d day (run.Notify version) = omega arith
+changes_after d day (run.Process client call) = omega arith
+changes_after d day (run.Port client call) = omega arith
+changes_after d day (run.Begin client manager.File) = omega arith
+changes_after d day (run.Begin client manager.Process) = omega arith
+changes_after d day (run.Begin client manager.Port) = omega arith
+changes_after d day (run.End client manager.File) = omega arith
+changes_after d day (run.End client manager.Process) = omega arith
+changes_after d day (run.End client manager.Port) = omega arith
+changes_after d day (run.Notify version) = noticed_changes (refusal_of d day version)
+  where
+    noticed_changes : (refusal : Option NotifyFault) → (day_notified day version refusal).changes ≤ day.changes + 1
+    noticed_changes None = omega arith
+    noticed_changes (Some fault) = omega arith
 changes_after d day (run.Update most) = omega arith
-changes_after d day run.Ack =
-    elim (is_done (ack_on d day)) as (λ (b : Bool). (day_acknowledged day b).changes ≤ day.changes + 1) [ true ↦ omega arith | false ↦ omega arith ]
+changes_after d day run.Ack = change_counted (is_complete (is_changing day) (file_ack d day) (process_ack d day) (port_ack d day)) day.changes
+
+-- an acknowledgement leaves the newest number
+number_settled : {State : Type 0} (post : Post State) (done : Bool) → number_of (settled_if post done).phase ≡ number_of post.phase
+number_settled post false = refl
+number_settled post true = of_phase post.phase
+  where
+    of_phase : (phase : Phase) → number_of (acknowledged phase) ≡ number_of phase
+    of_phase (Settled settled version) = refl
+    of_phase (Pending pending old new) = refl
+
+-- a notice that finds no change pending makes the next number the newest
+number_noticed : (phase : Phase) (version : ℕ) → is_pending phase ≡ false → number_of (noticed phase (number_of phase + 1) version) ≡ number_of phase + 1
+number_noticed (Settled settled old) version idle = refl
+number_noticed (Pending pending old new) version idle = cc
+
+-- where nothing speaks against a version, no change is pending
+none_pending : (files processes ports : Bool) (number : ℕ) (other : Option NotifyFault)
+    → (if files || processes || ports then Some (faults.Pending number) else other) ≡ None → (files ≡ false) × ((processes ≡ false) × (ports ≡ false))
+none_pending true processes ports number other is = cc
+none_pending false true ports number other is = cc
+none_pending false false true number other is = cc
+none_pending false false false number other is = (refl, (refl, refl))
+
+-- the managers' newest numbers stay the same as each other
+pub in_step_after : (d : Decisions) (day : Day) (asks : Run) → IsInStep day → IsInStep (day_after d day asks)
+in_step_after d day (run.File client call) is = record { processes = is.processes; ports = is.ports }
+in_step_after d day (run.Process client call) is = record { processes = is.processes; ports = is.ports }
+in_step_after d day (run.Port client call) is = record { processes = is.processes; ports = is.ports }
+in_step_after d day (run.Begin client manager.File) is = record { processes = is.processes; ports = is.ports }
+in_step_after d day (run.Begin client manager.Process) is = record { processes = is.processes; ports = is.ports }
+in_step_after d day (run.Begin client manager.Port) is = record { processes = is.processes; ports = is.ports }
+in_step_after d day (run.End client manager.File) is = record { processes = is.processes; ports = is.ports }
+in_step_after d day (run.End client manager.Process) is = record { processes = is.processes; ports = is.ports }
+in_step_after d day (run.End client manager.Port) is = record { processes = is.processes; ports = is.ports }
+in_step_after d day (run.Notify version) is = noticed_in_step (refusal_of d day version) refl
+  where
+    noticed_in_step : (refusal : Option NotifyFault) → refusal_of d day version ≡ refusal → IsInStep (day_notified day version refusal)
+    noticed_in_step (Some fault) given = is
+    noticed_in_step None given =
+        let idle = none_pending (is_pending day.files.phase) (is_pending day.processes.phase) (is_pending day.ports.phase) (number_of day.files.phase) _ given in
+        let files = number_noticed day.files.phase version idle.0 in
+        record {
+          processes = number_noticed day.processes.phase version idle.1.0 ∙ ap (λ n. n + 1) is.processes ∙ sym files;
+          ports = number_noticed day.ports.phase version idle.1.1 ∙ ap (λ n. n + 1) is.ports ∙ sym files;
+        }
+in_step_after d day (run.Update most) is = record { processes = is.processes; ports = is.ports }
+in_step_after d day run.Ack is =
+    let files = number_settled day.files (is_done (file_ack d day)) in
+    record {
+      processes = number_settled day.processes (is_done (process_ack d day)) ∙ is.processes ∙ sym files;
+      ports = number_settled day.ports (is_done (port_ack d day)) ∙ is.ports ∙ sym files;
+    }
+
+-- the managers have as many clients as before
+pub clients_after : (count : ℕ) (old new : Day) → HasClients count old → IsSameOpening old new → HasClients count new
+clients_after count old new has same = record {
+  files = ap (λ o. length o.clients) same.files ∙ has.files;
+  processes = ap (λ o. length o.clients) same.processes ∙ has.processes;
+  ports = ap (λ o. length o.clients) same.ports ∙ has.ports;
+}
 
 -- the identifiers of a session are those of its policy's contexts, of which the declared ones come first
 sid_known : (declared : List ContextLine) (count sid : ℕ) → length declared ≤ count → IsSidOf declared sid → IsTrue (nat_lt 0 sid && nat_le sid count)
@@ -111,12 +207,26 @@ root_declared : (contexts : List ContextLine) (root : Option ℕ) → 0 < length
 root_declared contexts None some given = (omega arith, omega arith)
 root_declared contexts (Some sid) some given = given
 
-pub opening_known : (session : SessionParts) (d : Decisions) → IsSession session → 0 < length session.policy.contexts → ((sid : ℕ) → IsSidOf session.policy.contexts sid → IsTrue (d.known sid)) → IsOpening d (opening_of session)
-opening_known session d is some known = (
-  All-map (λ sid. IsTrue (d.known sid)) (λ (client : ClientLine). client.sid) session.clients (λ k e within. known _ (is.clients k e within)),
-  known _ (root_declared session.policy.contexts session.root some is.root),
-  λ k e within. known _ (is.nodes k e within),
-)
+-- the clients' identifiers are known
+clients_known : (session : SessionParts) (d : Decisions) → IsSession session → ((sid : ℕ) → IsSidOf session.policy.contexts sid → IsTrue (d.known sid)) → All (λ sid. IsTrue (d.known sid)) (map (λ (client : ClientLine). client.sid) session.clients)
+clients_known session d is known =
+    All-map (λ sid. IsTrue (d.known sid)) (λ (client : ClientLine). client.sid) session.clients (λ k e within. known _ (is.clients k e within))
+
+pub openings_known : (session : SessionParts) (d : Decisions) → IsSession session → 0 < length session.policy.contexts → ((sid : ℕ) → IsSidOf session.policy.contexts sid → IsTrue (d.known sid)) → AreOpenings d (openings_of session)
+openings_known session d is some known = record {
+  files = (
+    clients_known session d is known,
+    known _ (root_declared session.policy.contexts session.root some is.root),
+    λ k e within. known _ (is.nodes k e within),
+  );
+  nodes = is.tree;
+  processes = clients_known session d is known;
+  ports = (
+    clients_known session d is known,
+    known _ (root_declared session.policy.contexts session.port some is.port),
+    λ k e within. known _ (is.ports k e within),
+  );
+}
 
 -- what is declared is known
 named_known : (P Q : ℕ → Type 0) (clients : ℕ) (said : FileCall) → ((sid : ℕ) → P sid → Q sid) → IsDeclared P clients said → IsDeclared Q clients said
@@ -124,10 +234,16 @@ named_known P Q clients (call.Give slot client target) each is = is
 named_known P Q clients (call.Relabel path sid) each is = each sid is
 named_known P Q clients said each is = is
 
+process_known : (P Q : ℕ → Type 0) (said : ProcessCall) → ((sid : ℕ) → P sid → Q sid) → IsDeclaredProcess P said → IsDeclaredProcess Q said
+process_known P Q (process_call.Exec pid sid) each is = each sid is
+process_known P Q said each is = is
+
 run_known : (P Q : ℕ → Type 0) (clients : ℕ) (asks : Run) → ((sid : ℕ) → P sid → Q sid) → IsRun P clients asks → IsRun Q clients asks
 run_known P Q clients (run.File client said) each (below, formed, declared) = (below, formed, named_known P Q clients said each declared)
-run_known P Q clients (run.Begin client) each is = is
-run_known P Q clients (run.End client) each is = is
+run_known P Q clients (run.Process client said) each (below, formed, declared) = (below, formed, process_known P Q said each declared)
+run_known P Q clients (run.Port client said) each is = is
+run_known P Q clients (run.Begin client of) each is = is
+run_known P Q clients (run.End client of) each is = is
 run_known P Q clients (run.Notify version) each is = is
 run_known P Q clients (run.Update most) each is = is
 run_known P Q clients run.Ack each is = is
@@ -141,9 +257,20 @@ named_of d state clients (call.Give slot client target) same is = omega arith
 named_of d state clients (call.Relabel path sid) same is = is
 named_of d state clients said same is = tt
 
-pub call_formed : (d : Decisions) (state : FileState) (clients client : ℕ) (said : FileCall) → client < clients → length state.opening.clients ≡ clients → IsCall said → IsDeclared (λ sid. IsTrue (d.known sid)) clients said → IsFormed d state client said
-call_formed d state clients client said below same ranges declared =
+pub call_formed : (d : Decisions) (state : FileState) (clients client : ℕ) (said : FileCall) → length state.opening.clients ≡ clients → IsRun (λ sid. IsTrue (d.known sid)) clients (run.File client said) → file.IsFormed d state client said
+call_formed d state clients client said same (below, ranges, declared) =
     record { caller_is = omega arith; ranges = ranges; named = named_of d state clients said same declared }
+
+process_named : (d : Decisions) (said : ProcessCall) → IsDeclaredProcess (λ sid. IsTrue (d.known sid)) said → process.IsNamed d said
+process_named d (process_call.Exec pid sid) is = is
+process_named d said is = tt
+
+pub process_formed : (d : Decisions) (state : ProcessState) (clients client : ℕ) (said : ProcessCall) → length state.opening.clients ≡ clients → IsRun (λ sid. IsTrue (d.known sid)) clients (run.Process client said) → process.IsFormed d state client said
+process_formed d state clients client said same (below, ranges, declared) =
+    record { caller_is = omega arith; ranges = ranges; named = process_named d said declared }
+
+pub port_formed : (d : Decisions) (state : PortState) (clients client : ℕ) (said : PortCall) → length state.opening.clients ≡ clients → IsRun (λ sid. IsTrue (d.known sid)) clients (run.Port client said) → port.IsFormed d state client said
+port_formed d state clients client said same (below, ranges) = record { caller_is = omega arith; ranges = ranges }
 
 -- a line was written whole, with which all is
 pub all_written : (before now later : Option (List ℕ)) (whole part : List ℕ) → IsOffered before now whole part → Adds now later part → Adds before later whole
@@ -158,11 +285,11 @@ last_failed before now later whole part offered added = (
   adds_more before now later offered.0 added.0 offered.2 added.3,
 )
 
--- what the lines print from a desk that was set up with an opening
-pub run_text : {Decider : Type 0} (decides : Decider → Decisions) (decider : Decider) (opening : FileOpening) (desk : Standing Decider) (contexts : List (ContextOf (List ℕ))) (clients : List ClientLine) (items : List RunLine) → desk ≡ record { day = morning_of opening; decider = decider } → lines_text contexts (decides desk.decider) clients desk.day items ≡ lines_text contexts (decides decider) clients (morning_of opening) items
-run_text decides decider opening desk contexts clients items is = ap (λ (at : Standing _). lines_text contexts (decides at.decider) clients at.day items) is
+-- what the lines print from a desk that was set up with openings
+pub run_text : {Decider : Type 0} (decides : Decider → Decisions) (decider : Decider) (openings : Openings) (desk : Standing Decider) (contexts : List (ContextOf (List ℕ))) (clients : List ClientLine) (items : List RunLine) → desk ≡ record { day = morning_of openings; decider = decider } → lines_text contexts (decides desk.decider) clients desk.day items ≡ lines_text contexts (decides decider) clients (morning_of openings) items
+run_text decides decider openings desk contexts clients items is = ap (λ (at : Standing _). lines_text contexts (decides at.decider) clients at.day items) is
 
 -- what the lines of a session print, from what it was opened with
-pub run_is : (session : SessionParts) (opening : FileOpening) (contexts : List (ContextOf (List ℕ))) (d : Decisions) (clients : List ClientLine) (items : List RunLine) → opening ≡ opening_of session → clients ≡ session.clients → items ≡ session.lines → lines_text contexts d clients (morning_of opening) items ≡ text_on contexts d session
+pub run_is : (session : SessionParts) (openings : Openings) (contexts : List (ContextOf (List ℕ))) (d : Decisions) (clients : List ClientLine) (items : List RunLine) → openings ≡ openings_of session → clients ≡ session.clients → items ≡ session.lines → lines_text contexts d clients (morning_of openings) items ≡ text_on contexts d session
 unfolding text_on
-run_is session opening contexts d clients items opening_is clients_is items_is = rw (clients_is, items_is, opening_is) refl
+run_is session openings contexts d clients items openings_is clients_is items_is = rw (clients_is, items_is, openings_is) refl

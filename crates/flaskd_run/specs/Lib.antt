@@ -2,5 +2,4 @@ pub mod Reading
 pub mod Writing
 pub mod Texts
 pub mod Serial
-pub mod Desks
 pub mod Top

@@ -1,5 +1,5 @@
 -- What a run prints.
-use Rattle.std.specs.Prelude.{ℕ, List, [], ◌∷◌, ◌++◌, length, Option, Some, None, Result, Ok, Err, codes, decimal}
+use Rattle.std.specs.Prelude.{ℕ, List, [], ◌∷◌, ◌++◌, length, Option, Some, None, Result, Ok, Err, if◌then◌else◌, codes, decimal}
 use Rattle.access_vectors.specs.Table.{Permission, class_word, perm_word}
 use Rattle.manager_history.specs.declared.answers.Ack.{Ack}
 use Rattle.manager_history.specs.declared.answers.Ack.TheVariants as acks
@@ -9,6 +9,15 @@ use Rattle.flask_sid.specs.declared.context.ContextOf.{ContextOf}
 use Rattle.policy_versions.specs.Judging.{context_with}
 use Rattle.file_calls.specs.declared.call.FileReply.{FileReply}
 use Rattle.file_calls.specs.declared.call.FileReply.TheVariants as reply
+use Rattle.process_calls.specs.declared.call.ProcessReply.{ProcessReply}
+use Rattle.process_calls.specs.declared.call.ProcessReply.TheVariants as process
+use Rattle.port_calls.specs.declared.call.PortReply.{PortReply}
+use Rattle.port_calls.specs.declared.call.PortReply.TheVariants as port
+use Rattle.session_text.specs.declared.run_forms.Manager.{Manager}
+use Rattle.session_text.specs.declared.run_forms.Manager.TheVariants as manager
+use Rattle.session_desk.specs.Days.{is_complete}
+use Rattle.session_desk.specs.declared.changes.Acks.{Acks}
+use Rattle.session_desk.specs.declared.changes.Left.{Left}
 
 -- a permission with its class
 abbrev pub perm_text : Permission → List ℕ
@@ -54,13 +63,53 @@ reply_text contexts reply.BadMode = codes "badmode"
 reply_text contexts reply.TooBig = codes "toobig"
 reply_text contexts reply.TooMany = codes "toomany"
 
+-- a number that a process manager told
+abbrev pub num_text : ℕ → List ℕ
+num_text number = codes "num " ++ decimal number
+
+-- a reply of the process manager, whose labels are identifiers of these contexts
+abbrev pub process_reply_text : List (ContextOf (List ℕ)) → ProcessReply → List ℕ
+process_reply_text contexts process.Done = codes "done"
+process_reply_text contexts (process.Num number) = num_text number
+process_reply_text contexts (process.Stat sid number) = stat_text (context_with contexts sid) number
+process_reply_text contexts (process.Denied perm policy) = codes "denied " ++ perm_text perm
+process_reply_text contexts process.NoProcess = codes "noprocess"
+process_reply_text contexts process.Exists = codes "exists"
+process_reply_text contexts process.Ended = codes "ended"
+process_reply_text contexts process.Running = codes "running"
+process_reply_text contexts process.NotChild = codes "notchild"
+process_reply_text contexts process.BadSlot = codes "badslot"
+process_reply_text contexts process.SlotUsed = codes "slotused"
+process_reply_text contexts process.TooMany = codes "toomany"
+
+-- a reply of the port manager, whose labels are identifiers of these contexts
+abbrev pub port_reply_text : List (ContextOf (List ℕ)) → PortReply → List ℕ
+port_reply_text contexts port.Done = codes "done"
+port_reply_text contexts (port.Bytes bytes) = data_text bytes
+port_reply_text contexts (port.Stat sid number) = stat_text (context_with contexts sid) number
+port_reply_text contexts (port.Denied perm policy) = codes "denied " ++ perm_text perm
+port_reply_text contexts port.Taken = codes "taken"
+port_reply_text contexts port.NoPort = codes "noport"
+port_reply_text contexts port.BadSlot = codes "badslot"
+port_reply_text contexts port.SlotUsed = codes "slotused"
+port_reply_text contexts port.BadMode = codes "badmode"
+port_reply_text contexts port.Full = codes "full"
+port_reply_text contexts port.Empty = codes "empty"
+port_reply_text contexts port.TooBig = codes "toobig"
+
+-- the word of a manager
+abbrev pub manager_word : Manager → List ℕ
+manager_word manager.File = codes "file"
+manager_word manager.Process = codes "process"
+manager_word manager.Port = codes "port"
+
 -- the front of a client's line: its number in the text, the client, the manager, and the policy number
-abbrev pub client_front : ℕ → List ℕ → ℕ → List ℕ
-client_front line name number = decimal line ++ codes " " ++ name ++ codes " file " ++ decimal number ++ codes " "
+abbrev pub client_front : ℕ → List ℕ → Manager → ℕ → List ℕ
+client_front line name of number = decimal line ++ codes " " ++ name ++ codes " " ++ manager_word of ++ codes " " ++ decimal number ++ codes " "
 
 -- the line of a client, with what it got
-abbrev pub client_text : ℕ → List ℕ → ℕ → List ℕ → List ℕ
-client_text line name number got = client_front line name number ++ got ++ codes "\n"
+abbrev pub client_text : ℕ → List ℕ → Manager → ℕ → List ℕ → List ℕ
+client_text line name of number got = client_front line name of number ++ got ++ codes "\n"
 
 -- the front of an administrator's line
 abbrev pub admin_front : ℕ → List ℕ
@@ -83,16 +132,26 @@ abbrev pub said_text : Result ℕ NotifyFault → List ℕ
 said_text (Ok number) = notice_text None number
 said_text (Err fault) = notice_text (Some fault) 0
 
--- what an update got: how many slots are stale yet; the managers of processes and ports are not built, and have none
-abbrev pub updated_text : ℕ → List ℕ
-updated_text left = codes "updated " ++ decimal left ++ codes " 0 0"
+-- what an update got: how many slots of each manager are stale yet
+abbrev pub updated_text : Left → List ℕ
+updated_text left = codes "updated " ++ decimal left.files ++ codes " " ++ decimal left.processes ++ codes " " ++ decimal left.ports
 
--- what an acknowledgement got; the managers of processes and ports are not built, and keep nothing back
-abbrev pub ack_text : Ack → List ℕ
-ack_text acks.Idle = codes "idle"
-ack_text (acks.Busy older) = codes "waiting busy:" ++ decimal older ++ codes " kept kept"
-ack_text (acks.Behind left) = codes "waiting behind:" ++ decimal left ++ codes " kept kept"
-ack_text (acks.Done receipt) = codes "complete " ++ decimal receipt.number
+-- what a manager's acknowledgement got: it keeps the change back, or has acknowledged it, just now or before
+abbrev pub item_text : Ack → List ℕ
+item_text (acks.Busy older) = codes "busy:" ++ decimal older
+item_text (acks.Behind left) = codes "behind:" ++ decimal left
+item_text other = codes "kept"
+
+-- and that of each, where some manager keeps the change back
+abbrev pub waiting_text : Acks → List ℕ
+waiting_text got =
+    codes "waiting " ++ item_text got.files ++ codes " " ++ item_text got.processes ++ codes " " ++ item_text got.ports
+
+-- what an acknowledgement got: nothing was pending, the change is complete, or it waits
+abbrev pub ack_text : Acks → List ℕ
+ack_text got =
+    if got.changing then (if is_complete got.changing got.files got.processes got.ports then codes "complete " ++ decimal got.number else waiting_text got)
+    else codes "idle"
 
 -- the last line: how many calls, how many of them denied, and how many changes complete
 abbrev pub summary_text : ℕ → ℕ → ℕ → List ℕ

@@ -1,8 +1,7 @@
 //! The program: reads a session, runs its lines on the managers, and prints what they answer.
 #![tactic(auto)]
 
-mod desk;
-mod file_rights;
+mod lines;
 mod reading;
 mod said;
 mod serial;

@@ -8,6 +8,10 @@ use access_vectors::{Perm, class_name, perm_name};
 use file_calls::FileReply;
 use flask_sid::{Context, Memory, Piece, Sid, SidTable};
 use manager_history::{Ack, NotifyFault};
+use port_calls::PortReply;
+use process_calls::ProcessReply;
+use session_desk::{Acks, Left};
+use session_text::Manager;
 use text_lines::put_number;
 
 /// Puts a reply of the file manager, whose labels are identifiers of these contexts.
@@ -30,6 +34,57 @@ pub fn put_reply(out: &mut Piece, contexts: &SidTable, reply: &FileReply) -> Res
         FileReply::BadMode => out.extend(b"badmode"),
         FileReply::TooBig => out.extend(b"toobig"),
         FileReply::TooMany => out.extend(b"toomany"),
+    }
+}
+
+/// Puts a reply of the process manager, whose labels are identifiers of these contexts.
+pub fn put_process_reply(
+    out: &mut Piece,
+    contexts: &SidTable,
+    reply: &ProcessReply,
+) -> Result<(), Memory>
+    ensures { OnOk result (out.new ≡ out.old ++ Texts.process_reply_text contexts.now reply.now) }
+{
+    match reply {
+        ProcessReply::Done => out.extend(b"done"),
+        ProcessReply::Num(number) => put_num(out, *number),
+        ProcessReply::Stat { sid, number } => put_stat(out, contexts, *sid, u64::from(*number)),
+        ProcessReply::Denied { perm, policy: _ } => put_denial(out, *perm),
+        ProcessReply::NoProcess => out.extend(b"noprocess"),
+        ProcessReply::Exists => out.extend(b"exists"),
+        ProcessReply::Ended => out.extend(b"ended"),
+        ProcessReply::Running => out.extend(b"running"),
+        ProcessReply::NotChild => out.extend(b"notchild"),
+        ProcessReply::BadSlot => out.extend(b"badslot"),
+        ProcessReply::SlotUsed => out.extend(b"slotused"),
+        ProcessReply::TooMany => out.extend(b"toomany"),
+    }
+}
+
+fn put_num(out: &mut Piece, number: u32) -> Result<(), Memory>
+    ensures { OnOk result (out.new ≡ out.old ++ Texts.num_text number) }
+{
+    out.extend(b"num ")?;
+    put_number(out, u64::from(number))
+}
+
+/// Puts a reply of the port manager, whose labels are identifiers of these contexts.
+pub fn put_port_reply(out: &mut Piece, contexts: &SidTable, reply: &PortReply) -> Result<(), Memory>
+    ensures { OnOk result (out.new ≡ out.old ++ Texts.port_reply_text contexts.now reply.now) }
+{
+    match reply {
+        PortReply::Done => out.extend(b"done"),
+        PortReply::Bytes(bytes) => put_data(out, bytes.as_bytes()),
+        PortReply::Stat { sid, number } => put_stat(out, contexts, *sid, u64::from(*number)),
+        PortReply::Denied { perm, policy: _ } => put_denial(out, *perm),
+        PortReply::Taken => out.extend(b"taken"),
+        PortReply::NoPort => out.extend(b"noport"),
+        PortReply::BadSlot => out.extend(b"badslot"),
+        PortReply::SlotUsed => out.extend(b"slotused"),
+        PortReply::BadMode => out.extend(b"badmode"),
+        PortReply::Full => out.extend(b"full"),
+        PortReply::Empty => out.extend(b"empty"),
+        PortReply::TooBig => out.extend(b"toobig"),
     }
 }
 
@@ -109,15 +164,33 @@ fn put_denial(out: &mut Piece, perm: Perm) -> Result<(), Memory>
 }
 
 /// Puts the front of a client's line, up to what it got.
-pub fn put_client(out: &mut Piece, line: u32, name: &[u8], number: u32) -> Result<(), Memory>
-    ensures { OnOk result (out.new ≡ out.old ++ Texts.client_front line name.now number) }
+pub fn put_client(
+    out: &mut Piece,
+    line: u32,
+    name: &[u8],
+    manager: Manager,
+    number: u32,
+) -> Result<(), Memory>
+    ensures { OnOk result (out.new ≡ out.old ++ Texts.client_front line name.now manager number) }
 {
     put_number(out, u64::from(line))?;
     out.extend(b" ")?;
     out.extend(name)?;
-    out.extend(b" file ")?;
+    out.extend(b" ")?;
+    out.extend(manager_word(manager))?;
+    out.extend(b" ")?;
     put_number(out, u64::from(number))?;
     out.extend(b" ")
+}
+
+fn manager_word(manager: Manager) -> &'static [u8]
+    ensures { result.now ≡ Texts.manager_word manager }
+{
+    match manager {
+        Manager::File => b"file",
+        Manager::Process => b"process",
+        Manager::Port => b"port",
+    }
 }
 
 /// Puts the front of an administrator's line, up to what it got.
@@ -148,35 +221,58 @@ pub fn put_notice(out: &mut Piece, said: &Result<u32, NotifyFault>) -> Result<()
 }
 
 /// Puts what an update got.
-pub fn put_updated(out: &mut Piece, left: u64) -> Result<(), Memory>
-    ensures { OnOk result (out.new ≡ out.old ++ Texts.updated_text left) }
+pub fn put_updated(out: &mut Piece, left: &Left) -> Result<(), Memory>
+    ensures { OnOk result (out.new ≡ out.old ++ Texts.updated_text left.now) }
 {
     out.extend(b"updated ")?;
-    put_number(out, left)?;
-    out.extend(b" 0 0")
+    put_number(out, left.files)?;
+    out.extend(b" ")?;
+    put_number(out, left.processes)?;
+    out.extend(b" ")?;
+    put_number(out, left.ports)
 }
 
 /// Puts what an acknowledgement got.
-pub fn put_ack(out: &mut Piece, ack: &Ack) -> Result<(), Memory>
-    ensures { OnOk result (out.new ≡ out.old ++ Texts.ack_text ack.now) }
+pub fn put_acks(out: &mut Piece, acks: &Acks) -> Result<(), Memory>
+    ensures { OnOk result (out.new ≡ out.old ++ Texts.ack_text acks.now) }
+{
+    if !acks.changing {
+        return out.extend(b"idle");
+    }
+    if acks.is_complete() {
+        out.extend(b"complete ")?;
+        return put_number(out, u64::from(acks.number));
+    }
+    put_waiting(out, acks)
+}
+
+/// Puts what each manager got, where some manager keeps a change back.
+fn put_waiting(out: &mut Piece, acks: &Acks) -> Result<(), Memory>
+    ensures { OnOk result (out.new ≡ out.old ++ Texts.waiting_text acks.now) }
+{
+    out.extend(b"waiting ")?;
+    put_item(out, &acks.files)?;
+    out.extend(b" ")?;
+    put_item(out, &acks.processes)?;
+    out.extend(b" ")?;
+    put_item(out, &acks.ports)
+}
+
+fn put_item(out: &mut Piece, ack: &Ack) -> Result<(), Memory>
+    ensures { OnOk result (out.new ≡ out.old ++ Texts.item_text ack.now) }
 {
     match ack {
-        Ack::Idle => out.extend(b"idle"),
-        Ack::Busy { older } => put_waiting(out, b"waiting busy:", *older),
-        Ack::Behind { left } => put_waiting(out, b"waiting behind:", *left),
-        Ack::Done(receipt) => {
-            out.extend(b"complete ")?;
-            put_number(out, u64::from(receipt.number))
-        }
+        Ack::Busy { older } => put_count(out, b"busy:", *older),
+        Ack::Behind { left } => put_count(out, b"behind:", *left),
+        _ => out.extend(b"kept"),
     }
 }
 
-fn put_waiting(out: &mut Piece, why: &[u8], count: u64) -> Result<(), Memory>
-    ensures { OnOk result (out.new ≡ out.old ++ (why.now ++ decimal count ++ codes " kept kept")) }
+fn put_count(out: &mut Piece, why: &[u8], count: u64) -> Result<(), Memory>
+    ensures { OnOk result (out.new ≡ out.old ++ (why.now ++ decimal count)) }
 {
     out.extend(why)?;
-    put_number(out, count)?;
-    out.extend(b" kept kept")
+    put_number(out, count)
 }
 
 /// Puts the summary's line.

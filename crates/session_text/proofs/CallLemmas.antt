@@ -18,14 +18,22 @@ use Rattle.file_calls.specs.Formed.{IsCall, IsSlot, IsOffset, IsReadLength, IsDa
 use Rattle.file_calls.specs.declared.call.FileCall.{FileCall}
 use Rattle.file_calls.specs.declared.call.FileCall.TheVariants as call
 use Rattle.session_text.specs.PathForms.{is_part_form, is_long_path}
-use Rattle.session_text.specs.Ranges.{is_past_call, is_past_file, is_past_slot, is_past_offset, is_long_word}
-use Rattle.session_text.specs.ArgumentForms.{IsPathForm, IsEntryForm, IsFileForm, IsCallForm}
-use Rattle.session_text.specs.Grammar.{sid_at, context_sid, client_number, slot_call, path_call, built_call}
+use Rattle.process_calls.specs.Formed as process_formed
+use Rattle.port_calls.specs.Formed as port_formed
+use Rattle.session_text.specs.Ranges.{is_past_call, is_past_file, is_past_process, is_past_port, is_past_slot, is_past_offset, is_past_place, is_long_word}
+use Rattle.session_text.specs.ArgumentForms.{IsPathForm, IsEntryForm, IsFileForm, IsPortForm, IsCallForm}
+use Rattle.session_text.specs.Grammar.{sid_at, context_sid, client_number, slot_call, path_call, process_call_of, port_call_of, asked_call}
 use Rattle.session_text.specs.Sessions.{IsSidOf, IsDeclared, IsRun}
 use Rattle.session_text.specs.declared.call_forms.CallForm.{CallForm}
 use Rattle.session_text.specs.declared.call_forms.CallForm.TheVariants.{OfFile, OfProcess, OfPort}
 use Rattle.session_text.specs.declared.call_forms.FileForm.{FileForm}
 use Rattle.session_text.specs.declared.call_forms.FileForm.TheVariants as file
+use Rattle.process_calls.specs.declared.call.ProcessCall.TheVariants as process_call
+use Rattle.session_text.specs.declared.call_forms.ProcessForm.{ProcessForm}
+use Rattle.session_text.specs.declared.call_forms.ProcessForm.TheVariants as process
+use Rattle.session_text.specs.declared.call_forms.PortForm.{PortForm}
+use Rattle.session_text.specs.declared.call_forms.PortForm.TheVariants as port
+use Rattle.session_text.specs.declared.session.Run.{Run}
 use Rattle.session_text.specs.declared.session.ClientLine.{ClientLine}
 use Rattle.session_text.specs.declared.session.Run.TheVariants as run
 use Rattle.session_text.specs.declared.session.SessionParts.{SessionParts}
@@ -169,16 +177,71 @@ by_either : {X : Type 0} (P : X → Type 0) (x y : Option X) → IfSome x P → 
 by_either P None y here there = there
 by_either P (Some a) y here there = here
 
-built_allowed : (session : SessionParts) (said : CallForm) → is_past_call said ≡ false → IsCallForm said → IfSome (built_call session said) (IsAllowed session.policy.contexts session.clients)
-unfolding built_call is_past_call IsCallForm
-built_allowed session (OfFile said) within formed =
-    by_either (IsAllowed session.policy.contexts session.clients) (slot_call session.clients said) (path_call session.policy.contexts said)
-    (slot_call_allowed session.policy.contexts session.clients said within formed) (path_call_allowed session.policy.contexts session.clients said within formed)
-built_allowed session (OfProcess said) within formed = tt
-built_allowed session (OfPort said) within formed = tt
+-- a line that a session may have
+abbrev MayRun : SessionParts → Run → Type 0
+MayRun session asked = IsRun (IsSidOf session.policy.contexts) (length session.clients) asked
+
+-- the number of a process or a port
+place_formed : (number : ℕ) → is_past_place number ≡ false → (0 < number) × (number < 65536)
+place_formed number within = (grind (arith, nat_tests), grind (arith, nat_tests))
+
+-- a call of the process manager within its limits
+process_allowed : (session : SessionParts) (client : ℕ) (said : ProcessForm) → client < length session.clients → is_past_process said ≡ false
+    → IfSome (option_map (run.Process client) (process_call_of session.policy.contexts said)) (MayRun session)
+unfolding process_call_of is_past_process
+process_allowed session client (process.Fork pid) known within = (known, place_formed pid within, tt)
+process_allowed session client (process.Exec pid context) known within = named (context_sid session.policy.contexts context) (sid_within session.policy.contexts context)
+  where
+    named : (found : Option ℕ) → IfSome found (IsSidOf session.policy.contexts) → IfSome (option_map (run.Process client) (option_map (λ sid. process_call.Exec pid sid) found)) (MayRun session)
+    named None is = tt
+    named (Some sid) is = (known, place_formed pid (neither (is_past_place pid) (is_long_context context) within).0, is)
+process_allowed session client (process.Signal pid number) known within =
+    let last = neither (is_past_place pid || number == 0) (nat_lt 64 number) within in
+    let apart = neither (is_past_place pid) (number == 0) last.0 in
+    (known, (place_formed pid apart.0, (grind (arith, nat_tests), grind (arith, nat_tests))), tt)
+process_allowed session client (process.Exit pid code) known within =
+    let apart = neither (is_past_place pid) (nat_lt 255 code) within in
+    (known, (place_formed pid apart.0, grind (arith, nat_tests)), tt)
+process_allowed session client (process.Wait pid) known within = (known, place_formed pid within, tt)
+process_allowed session client (process.Attach slot pid) known within =
+    let apart = neither (is_past_slot slot) (is_past_place pid) within in
+    (known, (slot_formed slot apart.0, place_formed pid apart.1), tt)
+process_allowed session client (process.Peek slot) known within = (known, slot_formed slot within, tt)
+process_allowed session client (process.Poke slot value) known within =
+    let apart = neither (is_past_slot slot) (nat_lt 4294967295 value) within in
+    (known, slot_formed slot apart.0, tt)
+process_allowed session client (process.Detach slot) known within = (known, slot_formed slot within, tt)
+process_allowed session client (process.Stat pid) known within = (known, place_formed pid within, tt)
+
+-- a call of the port manager within its limits, whose words have their form
+port_allowed : (said : PortForm) → is_past_port said ≡ false → IsPortForm said → port_formed.IsCall (port_call_of said)
+unfolding port_call_of is_past_port IsPortForm
+port_allowed (port.Bind slot number mode) within formed =
+    let apart = neither (is_past_slot slot) (is_past_place number) within in
+    (slot_formed slot apart.0, place_formed number apart.1, formed)
+port_allowed (port.Connect slot number mode) within formed =
+    let apart = neither (is_past_slot slot) (is_past_place number) within in
+    (slot_formed slot apart.0, place_formed number apart.1, formed)
+port_allowed (port.Recv slot) within formed = slot_formed slot within
+port_allowed (port.Push slot bytes) within formed =
+    let apart = neither (is_past_slot slot) (is_long_word bytes) within in
+    (slot_formed slot apart.0, data_formed bytes formed apart.1)
+port_allowed (port.Send number bytes) within formed =
+    let apart = neither (is_past_place number) (is_long_word bytes) within in
+    (place_formed number apart.0, data_formed bytes formed apart.1)
+port_allowed (port.Unbind slot) within formed = slot_formed slot within
+port_allowed (port.Stat number) within formed = place_formed number within
+
+asked_allowed : (session : SessionParts) (client : ℕ) (said : CallForm) → client < length session.clients → is_past_call said ≡ false → IsCallForm said → IfSome (asked_call session client said) (MayRun session)
+unfolding asked_call is_past_call IsCallForm
+asked_allowed session client (OfFile said) known within formed =
+    by_found (IsAllowed session.policy.contexts session.clients) (MayRun session) (run.File client) (option_or (slot_call session.clients said) (path_call session.policy.contexts said))
+    (by_either (IsAllowed session.policy.contexts session.clients) (slot_call session.clients said) (path_call session.policy.contexts said)
+    (slot_call_allowed session.policy.contexts session.clients said within formed) (path_call_allowed session.policy.contexts session.clients said within formed))
+    (λ built allowed. (known, allowed.0, allowed.1))
+asked_allowed session client (OfProcess said) known within formed = process_allowed session client said known within
+asked_allowed session client (OfPort said) known within formed = (known, port_allowed said within formed)
 
 -- a call that was put together may stand in a line of a client
-pub call_is_run : (session : SessionParts) (client : ℕ) (said : CallForm) (built : FileCall) → client < length session.clients → is_past_call said ≡ false → IsCallForm said → Some built ≡ built_call session said → IsRun (IsSidOf session.policy.contexts) (length session.clients) (run.File client built)
-call_is_run session client said built known within formed is =
-    let allowed = rw (← is) at (built_allowed session said within formed) in
-    (known, allowed.0, allowed.1)
+pub call_is_run : (session : SessionParts) (client : ℕ) (said : CallForm) (asked : Run) → client < length session.clients → is_past_call said ≡ false → IsCallForm said → Some asked ≡ asked_call session client said → MayRun session asked
+call_is_run session client said asked known within formed is = rw (← is) at (asked_allowed session client said known within formed)

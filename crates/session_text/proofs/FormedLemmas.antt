@@ -1,5 +1,5 @@
 -- What the words of a line give of a call's arguments, and what its limits make of them.
-use Rattle.std.proofs.Common.{◌≡◌, ℕ, Bool, true, false, List, [], ◌∷◌, Option, None, Some, Ok, Err, Result, refl, arith}
+use Rattle.std.proofs.Common.{◌≡◌, ℕ, Bool, true, false, List, [], ◌∷◌, Option, None, Some, Ok, Err, Result, refl, arith, inl, inr}
 use Rattle.std.specs.Prelude.{IfSome, if◌then◌else◌, ◌==◌, ◌&&◌, not, nat_lt, codes}
 use Rattle.std.specs.List.{list_all, filter, slice_split}
 use Rattle.std.specs.Str.{bytes_eq}
@@ -11,12 +11,15 @@ use Rattle.text_lines.specs.declared.fault.FaultKind.TheVariants.{Syntax, Limit}
 use Rattle.text_lines.specs.Numerals.{numeral_of}
 use Rattle.text_lines.specs.OptionSteps.{◌>>=◌}
 use Rattle.file_calls.specs.Formed.{IsFileMode}
+use Rattle.port_calls.specs.Formed.{IsBindMode, IsConnectMode}
 use Rattle.session_text.specs.Arguments.{only_word, only_number, only_context, only_path, only_entry, number_and_word, is_root}
 use Rattle.session_text.specs.PathForms.{path_form, is_part_form, parts_behind}
-use Rattle.session_text.specs.CallForms.{mode_of, open_form, read_form, write_form, give_form, list_form, relabel_form, slot_call_form, path_call_form, file_form, process_form, port_form}
+use Rattle.session_text.specs.CallForms.{mode_of, bind_mode_of, connect_mode_of, open_form, read_form, write_form, give_form, list_form, relabel_form, slot_call_form, path_call_form, file_form, process_form, bind_form, connect_form, port_form}
 use Rattle.session_text.specs.RunForms.{manager_of, call_form, asked_form, client_line_form, admin_form, run_form, alone}
-use Rattle.session_text.specs.ArgumentForms.{IsPathForm, IsEntryForm, IsFileForm, IsCallForm, IsRunForm}
+use Rattle.session_text.specs.ArgumentForms.{IsPathForm, IsEntryForm, IsFileForm, IsPortForm, IsCallForm, IsRunForm}
 use Rattle.session_text.specs.declared.call_forms.FileForm.TheVariants as file
+use Rattle.session_text.specs.declared.call_forms.PortForm.{PortForm}
+use Rattle.session_text.specs.declared.call_forms.PortForm.TheVariants as port
 use Rattle.session_text.specs.declared.run_forms.Manager.{Manager}
 use Rattle.session_text.specs.declared.run_forms.Manager.TheVariants.{File, Process, Port}
 use Rattle.session_text.specs.declared.run_forms.RunForm.{RunForm}
@@ -194,12 +197,63 @@ unfolding file_form
 file_given call words filled =
     by_first IsFileForm (slot_call_form call words) (path_call_form call words) (slot_call_given call words filled) (path_call_given call words)
 
+bind_mode_given : (word : List ℕ) → IfSome (bind_mode_of word) IsBindMode
+unfolding bind_mode_of
+bind_mode_given word =
+    by_test IsBindMode (bytes_eq word (codes "b")) _ _ (inl refl) (by_test IsBindMode (bytes_eq word (codes "br")) (Some 3) None (inr refl) tt)
+
+connect_mode_given : (word : List ℕ) → IfSome (connect_mode_of word) IsConnectMode
+unfolding connect_mode_of
+connect_mode_given word =
+    by_test IsConnectMode (bytes_eq word (codes "c")) _ _ (inl refl) (by_test IsConnectMode (bytes_eq word (codes "cs")) (Some 12) None (inr refl) tt)
+
+bind_given : (words : List (List ℕ)) → IfSome (bind_form words) IsPortForm
+unfolding bind_form IsPortForm
+bind_given [] = tt
+bind_given (slot ∷ []) = tt
+bind_given (slot ∷ at ∷ words) =
+    by_step IsPortForm (only_word words) _ (λ mode said.
+    by_step IsPortForm (numeral_of slot) _ (λ number slot_is.
+    by_step IsPortForm (numeral_of at) _ (λ place at_is.
+    by_step IsPortForm (bind_mode_of mode) (λ bits. Some (port.Bind number place bits)) (λ bits mode_is.
+    if_found IsBindMode (bind_mode_of mode) bits (bind_mode_given mode) mode_is))))
+
+connect_given : (words : List (List ℕ)) → IfSome (connect_form words) IsPortForm
+unfolding connect_form IsPortForm
+connect_given [] = tt
+connect_given (slot ∷ []) = tt
+connect_given (slot ∷ at ∷ words) =
+    by_step IsPortForm (only_word words) _ (λ mode said.
+    by_step IsPortForm (numeral_of slot) _ (λ number slot_is.
+    by_step IsPortForm (numeral_of at) _ (λ place at_is.
+    by_step IsPortForm (connect_mode_of mode) (λ bits. Some (port.Connect number place bits)) (λ bits mode_is.
+    if_found IsConnectMode (connect_mode_of mode) bits (connect_mode_given mode) mode_is))))
+
+-- bytes behind a numeral
+message_given : (words : List (List ℕ)) → AreFilled words → (make : ℕ → List ℕ → PortForm) → ((number : ℕ) (bytes : List ℕ) → is_filled bytes ≡ true → IsPortForm (make number bytes))
+    → IfSome (number_and_word words >>= λ said. Some (make said.0 said.1)) IsPortForm
+message_given words filled make each =
+    by_step IsPortForm (number_and_word words) (λ said. Some (make said.0 said.1))
+    (λ said is. each said.0 said.1 (if_found (λ (pair : ℕ × List ℕ). is_filled pair.1 ≡ true) (number_and_word words) said (second_filled words filled) is))
+
+port_given : (call : List ℕ) (words : List (List ℕ)) → AreFilled words → IfSome (port_form call words) IsPortForm
+unfolding port_form IsPortForm
+port_given call words filled =
+    by_test IsPortForm (bytes_eq call (codes "bind")) _ _ (bind_given words)
+    (by_test IsPortForm (bytes_eq call (codes "connect")) _ _ (connect_given words)
+    (by_test IsPortForm (bytes_eq call (codes "push")) _ _ (message_given words filled port.Push (λ number bytes is. is))
+    (by_test IsPortForm (bytes_eq call (codes "send")) _ _ (message_given words filled port.Send (λ number bytes is. is))
+    (by_test IsPortForm (bytes_eq call (codes "recv")) _ _ (by_step IsPortForm (only_number words) _ (λ slot is. tt))
+    (by_test IsPortForm (bytes_eq call (codes "unbind")) _ _ (by_step IsPortForm (only_number words) _ (λ slot is. tt))
+    (by_test IsPortForm (bytes_eq call (codes "stat")) _ None (by_step IsPortForm (only_number words) _ (λ at is. tt)) tt))))))
+
 call_given : (manager : Manager) (call : List ℕ) (words : List (List ℕ)) → AreFilled words → IfSome (call_form manager call words) IsCallForm
 unfolding call_form IsCallForm
 call_given File call words filled =
     by_step IsCallForm (file_form call words) _ (λ said is. if_found IsFileForm (file_form call words) said (file_given call words filled) is)
 call_given Process call words filled = by_step IsCallForm (process_form call words) _ (λ said is. tt)
-call_given Port call words filled = by_step IsCallForm (port_form call words) _ (λ said is. tt)
+call_given Port call words filled =
+    by_step IsCallForm (port_form call words) _ (λ said is. if_found IsPortForm (port_form call words) said (port_given call words filled) is)
 
 -- a line that is alone
 alone_given : (words : List (List ℕ)) (said : RunForm) → IsRunForm said → IfSome (alone words said) IsRunForm

@@ -5,15 +5,15 @@ use Rattle.std.proofs.lemmas.Bool.Decides.{nat_tests}
 use Rattle.std.proofs.lemmas.List.{length-append}
 use Rattle.std.proofs.lemmas.List.Elements.{All-append}
 use Rattle.session_text.specs.declared.session.Run.{Run}
-use Rattle.session_text.specs.declared.session.Run.TheVariants.{File, Begin, End, Notify, Update, Ack}
+use Rattle.session_text.specs.declared.session.Run.TheVariants.{File, Process, Port, Begin, End, Notify, Update, Ack}
 use Rattle.session_text.specs.declared.session.RunLine.{RunLine}
 use Rattle.session_text.specs.declared.session.SessionParts.{SessionParts}
 use Rattle.file_calls.specs.Openings.{IsEntry, AreEntries, has_node, is_parent_there}
 use Rattle.file_calls.specs.declared.call.FileCall.{FileCall}
 use Rattle.file_calls.specs.declared.call.FileCall.TheVariants as call
 use Rattle.file_calls.specs.declared.opening.Node.{Node}
-use Rattle.session_text.specs.Sessions.{IsSession, IsSidOf, IsPlace, IsRun, IsDeclared}
-use Rattle.session_text.specs.Grammar.{is_taken, with_root, with_node, with_client, with_line}
+use Rattle.session_text.specs.Sessions.{IsSession, IsSidOf, IsPlace, IsPortPlace, IsRun, IsDeclared}
+use Rattle.session_text.specs.Grammar.{is_taken, with_root, with_initial_port, with_port, with_node, with_client, with_line}
 use Rattle.session_text.proofs.CallLemmas.{neither}
 
 -- what holds of one
@@ -44,6 +44,8 @@ node_keeps path sid bytes session is known place few =
     let one : length (session.nodes ++ node ∷ []) ≡ length session.nodes + 1 = length-append session.nodes (node ∷ []) in
     record {
       root = is.root;
+      port = is.port;
+      ports = is.ports;
       nodes = all_push (λ node. IsSidOf session.policy.contexts node.sid) session.nodes node is.nodes known;
       tree = record {
         entries = entries_push [] session.nodes node is.tree.entries (record { below = place.0; parent = place.1; free = place.2 });
@@ -54,9 +56,26 @@ node_keeps path sid bytes session is known place few =
       lines = is.lines;
     }
 
+pub initial_port_keeps : (sid : ℕ) (session : SessionParts) → IsSession session → IsSidOf session.policy.contexts sid → IsSession (with_initial_port sid session)
+initial_port_keeps sid session is known =
+    record { root = is.root; port = known; ports = is.ports; nodes = is.nodes; tree = is.tree; clients = is.clients; few = is.few; lines = is.lines }
+
+pub port_keeps : (number sid : ℕ) (session : SessionParts) → IsSession session → IsPortPlace session.policy.contexts number sid → IsSession (with_port number sid session)
+port_keeps number sid session is place =
+    record {
+      root = is.root;
+      port = is.port;
+      ports = all_push (λ line. IsSidOf session.policy.contexts line.sid) session.ports (record { port = number; sid = sid }) is.ports place.1;
+      nodes = is.nodes;
+      tree = is.tree;
+      clients = is.clients;
+      few = is.few;
+      lines = is.lines;
+    }
+
 pub root_keeps : (sid : ℕ) (session : SessionParts) → IsSession session → IsSidOf session.policy.contexts sid → IsSession (with_root sid session)
 root_keeps sid session is known =
-    record { root = known; nodes = is.nodes; tree = is.tree; clients = is.clients; few = is.few; lines = is.lines }
+    record { root = known; port = is.port; ports = is.ports; nodes = is.nodes; tree = is.tree; clients = is.clients; few = is.few; lines = is.lines }
 
 -- a line of one of some clients is one of more
 more_declared : (known : ℕ → Type 0) (n m : ℕ) (said : FileCall) → n ≤ m → IsDeclared known n said → IsDeclared known m said
@@ -65,8 +84,10 @@ more_declared known n m said le is = is
 
 more_clients : (known : ℕ → Type 0) (n m : ℕ) (run : Run) → n ≤ m → IsRun known n run → IsRun known m run
 more_clients known n m (File client said) le (below, formed, declared) = (omega arith, formed, more_declared known n m said le declared)
-more_clients known n m (Begin client) le is = omega arith
-more_clients known n m (End client) le is = omega arith
+more_clients known n m (Process client said) le (below, formed, declared) = (omega arith, formed, declared)
+more_clients known n m (Port client said) le (below, formed) = (omega arith, formed)
+more_clients known n m (Begin client manager) le is = omega arith
+more_clients known n m (End client manager) le is = omega arith
 more_clients known n m (Notify ver) le is = is
 more_clients known n m (Update most) le is = is
 more_clients known n m Ack le is = is
@@ -79,6 +100,8 @@ client_keeps name sid session is known few =
     let one : length (session.clients ++ record { name = name; sid = sid } ∷ []) ≡ length session.clients + 1 = length-append session.clients (record { name = name; sid = sid } ∷ []) in
     record {
       root = is.root;
+      port = is.port;
+      ports = is.ports;
       nodes = is.nodes;
       tree = is.tree;
       clients = all_push (λ client. IsSidOf session.policy.contexts client.sid) session.clients (record { name = name; sid = sid }) is.clients known;
@@ -88,4 +111,4 @@ client_keeps name sid session is known few =
 
 pub line_keeps : (n : ℕ) (run : Run) (session : SessionParts) → IsSession session → IsRun (IsSidOf session.policy.contexts) (length session.clients) run → IsSession (with_line n run session)
 line_keeps n run session is formed =
-    record { root = is.root; nodes = is.nodes; tree = is.tree; clients = is.clients; few = is.few; lines = all_push (λ line. IsRun (IsSidOf session.policy.contexts) (length session.clients) line.run) session.lines (record { line = n; run = run }) is.lines formed }
+    record { root = is.root; port = is.port; ports = is.ports; nodes = is.nodes; tree = is.tree; clients = is.clients; few = is.few; lines = all_push (λ line. IsRun (IsSidOf session.policy.contexts) (length session.clients) line.run) session.lines (record { line = n; run = run }) is.lines formed }

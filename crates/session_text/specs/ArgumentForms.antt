@@ -6,9 +6,12 @@ use Rattle.file_calls.specs.Formed.{IsFileMode}
 use Rattle.session_text.specs.Arguments.{is_root}
 use Rattle.session_text.specs.PathForms.{is_part_form}
 use Rattle.session_text.specs.declared.call_forms.CallForm.{CallForm}
-use Rattle.session_text.specs.declared.call_forms.CallForm.TheVariants.{OfFile}
+use Rattle.port_calls.specs.Formed.{IsBindMode, IsConnectMode}
+use Rattle.session_text.specs.declared.call_forms.CallForm.TheVariants.{OfFile, OfPort}
 use Rattle.session_text.specs.declared.call_forms.FileForm.{FileForm}
 use Rattle.session_text.specs.declared.call_forms.FileForm.TheVariants as file
+use Rattle.session_text.specs.declared.call_forms.PortForm.{PortForm}
+use Rattle.session_text.specs.declared.call_forms.PortForm.TheVariants as port
 use Rattle.session_text.specs.declared.run_forms.RunForm.{RunForm}
 use Rattle.session_text.specs.declared.run_forms.RunForm.TheVariants as form
 
@@ -34,9 +37,18 @@ IsFileForm (file.Stat path) = IsPathForm path
 IsFileForm (file.Relabel path context) = IsPathForm path
 IsFileForm said = Unit {0}
 
+-- a call of the port manager: the mode is one of those that the call has, and data are not empty
+unfoldable pub IsPortForm : PortForm → Type 0
+IsPortForm (port.Bind slot number mode) = IsBindMode mode
+IsPortForm (port.Connect slot number mode) = IsConnectMode mode
+IsPortForm (port.Push slot bytes) = is_filled bytes ≡ true
+IsPortForm (port.Send number bytes) = is_filled bytes ≡ true
+IsPortForm said = Unit {0}
+
 -- any call
 unfoldable pub IsCallForm : CallForm → Type 0
 IsCallForm (OfFile said) = IsFileForm said
+IsCallForm (OfPort said) = IsPortForm said
 IsCallForm said = Unit {0}
 
 -- any line that runs

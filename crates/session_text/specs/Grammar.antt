@@ -19,10 +19,18 @@ use Rattle.session_text.specs.PathForms.{is_long_path}
 use Rattle.session_text.specs.RunForms.{run_form}
 use Rattle.session_text.specs.Ranges.{is_long_data, is_past_place, is_past_call}
 use Rattle.session_text.specs.declared.call_forms.CallForm.{CallForm}
-use Rattle.session_text.specs.declared.call_forms.CallForm.TheVariants.{OfFile, OfProcess}
+use Rattle.process_calls.specs.declared.call.ProcessCall.{ProcessCall}
+use Rattle.process_calls.specs.declared.call.ProcessCall.TheVariants as process_call
+use Rattle.port_calls.specs.declared.call.PortCall.{PortCall}
+use Rattle.port_calls.specs.declared.call.PortCall.TheVariants as port_call
+use Rattle.port_calls.specs.declared.opening.LabelledPort.{LabelledPort}
+use Rattle.session_text.specs.declared.call_forms.CallForm.TheVariants.{OfFile, OfProcess, OfPort}
 use Rattle.session_text.specs.declared.call_forms.FileForm.{FileForm}
 use Rattle.session_text.specs.declared.call_forms.FileForm.TheVariants as file
+use Rattle.session_text.specs.declared.call_forms.ProcessForm.{ProcessForm}
 use Rattle.session_text.specs.declared.call_forms.ProcessForm.TheVariants as process
+use Rattle.session_text.specs.declared.call_forms.PortForm.{PortForm}
+use Rattle.session_text.specs.declared.call_forms.PortForm.TheVariants as port
 use Rattle.session_text.specs.declared.run_forms.Manager.{Manager}
 use Rattle.session_text.specs.declared.run_forms.Manager.TheVariants as manager
 use Rattle.session_text.specs.declared.run_forms.RunForm.{RunForm}
@@ -31,12 +39,16 @@ use Rattle.session_text.specs.declared.setup_forms.Initial.{Initial}
 use Rattle.session_text.specs.declared.setup_forms.Initial.TheVariants.{Root, Ports}
 use Rattle.session_text.specs.declared.session.ClientLine.{ClientLine}
 use Rattle.session_text.specs.declared.session.Run.{Run}
-use Rattle.session_text.specs.declared.session.Run.TheVariants.{File, Begin, End, Notify, Update, Ack}
+use Rattle.session_text.specs.declared.session.Run.TheVariants.{File, Process, Port, Begin, End, Notify, Update, Ack}
 use Rattle.session_text.specs.declared.session.SessionParts.{SessionParts}
+use Rattle.session_text.specs.declared.running.ClientPasses.{ClientPasses}
 
--- how many there may be: nodes besides the root, and clients
+-- how many there may be: nodes besides the root, ports with contexts of their own, and clients
 abbrev pub node_limit : ℕ
 node_limit = 4095
+
+abbrev pub port_limit : ℕ
+port_limit = 1024
 
 abbrev pub client_limit : ℕ
 client_limit = 62
@@ -65,6 +77,14 @@ data_bytes (Some bytes) = bytes
 -- a session with the root's context
 abbrev pub with_root : ℕ → SessionParts → SessionParts
 with_root sid session = record session { root = Some sid }
+
+-- a session with the context of ports without a line
+abbrev pub with_initial_port : ℕ → SessionParts → SessionParts
+with_initial_port sid session = record session { port = Some sid }
+
+-- a session with one port more that has a context of its own
+abbrev pub with_port : ℕ → ℕ → SessionParts → SessionParts
+with_port number sid session = record session { ports = session.ports ++ record { port = number; sid = sid } ∷ [] }
 
 -- a session with one node more: a file with bytes, or a directory without
 abbrev pub with_node : List (List ℕ) → ℕ → Option (List ℕ) → SessionParts → SessionParts
@@ -129,10 +149,10 @@ client_read name context session =
     if is_past_client name context (length session.clients) then Err Limit
     else client_sid name context session >>= λ sid. Ok (with_client name sid session)
 
--- whose context a declared one is to be: the root's, where it has none yet; that of the ports is not built
+-- whose context a declared one is to be: the root's or that of the ports, where there is none yet
 unfoldable pub initial_with : Initial → ℕ → SessionParts → Result SessionParts FaultKind
 initial_with Root sid session = if is_some session.root then Err Twice else Ok (with_root sid session)
-initial_with Ports sid session = Err Unbuilt
+initial_with Ports sid session = if is_some session.port then Err Twice else Ok (with_initial_port sid session)
 
 -- an `initial` line
 unfoldable pub initial_read : Initial → ContextOf (List ℕ) → SessionParts → Result SessionParts FaultKind
@@ -140,40 +160,69 @@ initial_read what context session =
     if is_long_context context then Err Limit
     else found_or Undeclared (context_sid session.policy.contexts context) >>= λ sid. initial_with what sid session
 
--- a `port` line, which is not built yet
-unfoldable pub port_read : ℕ → ContextOf (List ℕ) → SessionParts → Result SessionParts FaultKind
-port_read port context session =
-    if is_past_place port || is_long_context context then Err Limit
-    else found_or Undeclared (context_sid session.policy.contexts context) >>= λ sid. Err Unbuilt
+-- a port of that number has a context of its own
+unfoldable pub has_port : List LabelledPort → ℕ → Bool
+has_port ports number = list_any (λ line. line.port == number) ports
 
--- a session whose lines run: what it says so far, and which clients hold a pass, by number
+-- a `port` line past a limit, below so many of them
+unfoldable pub is_past_port_line : ℕ → ContextOf (List ℕ) → ℕ → Bool
+is_past_port_line number context ports = is_past_place number || is_long_context context || nat_le port_limit ports
+
+-- a declared context is to be that of a port, where it has none of its own yet
+unfoldable pub port_with : ℕ → ℕ → SessionParts → Result SessionParts FaultKind
+port_with number sid session = if has_port session.ports number then Err Twice else Ok (with_port number sid session)
+
+-- a `port` line
+unfoldable pub port_read : ℕ → ContextOf (List ℕ) → SessionParts → Result SessionParts FaultKind
+port_read number context session =
+    if is_past_port_line number context (length session.ports) then Err Limit
+    else found_or Undeclared (context_sid session.policy.contexts context) >>= λ sid. port_with number sid session
+
+-- a session whose lines run: what it says so far, and which passes each client holds, by number
 pub record Running : Type 0 where
   pub session : SessionParts
-  pub held : List Bool
+  pub held : List ClientPasses
+
+-- a client that holds no pass
+abbrev pub no_pass : ClientPasses
+no_pass = record { file = false; process = false; port = false }
+
+-- a client holds a pass of a manager
+abbrev pub has_pass : Manager → ClientPasses → Bool
+has_pass manager.File passes = passes.file
+has_pass manager.Process passes = passes.process
+has_pass manager.Port passes = passes.port
+
+-- a client with a pass of a manager, or without
+abbrev pub with_pass : Manager → Bool → ClientPasses → ClientPasses
+with_pass manager.File now passes = record { file = now; process = passes.process; port = passes.port }
+with_pass manager.Process now passes = record { file = passes.file; process = now; port = passes.port }
+with_pass manager.Port now passes = record { file = passes.file; process = passes.process; port = now }
 
 -- a session whose lines begin to run: no client holds a pass
 abbrev pub begun : SessionParts → Running
-begun session = record { session = session; held = replicate (length session.clients) false }
+begun session = record { session = session; held = replicate (length session.clients) no_pass }
 
--- a client holds a pass
-abbrev pub is_held : List Bool → ℕ → Bool
-is_held held client = unwrap_or (slice_get held client) false
+-- the passes that a client holds
+abbrev pub passes_of : List ClientPasses → ℕ → ClientPasses
+passes_of held client = unwrap_or (slice_get held client) no_pass
 
--- a client of that name holds a pass; one that was not declared holds none
-abbrev pub holds : Running → List ℕ → Bool
-holds running name = number_holds (client_number running.session.clients name)
+-- a client of that name holds a pass of that manager; one that was not declared holds none
+unfoldable pub holds : Manager → Running → List ℕ → Bool
+holds manager running name = number_holds (client_number running.session.clients name)
   where
     number_holds : Option ℕ → Bool
     number_holds None = false
-    number_holds (Some client) = is_held running.held client
+    number_holds (Some client) = has_pass manager (passes_of running.held client)
 
 -- a session with one line more, in which no pass is taken or given back
 abbrev pub running_on : Running → ℕ → Run → Running
 running_on running n run = record { session = with_line n run running.session; held = running.held }
 
--- a session with one line more, with which a client takes a pass or gives it back
-abbrev pub held_on : Running → ℕ → Run → ℕ → Bool → Running
-held_on running n run client now = record { session = with_line n run running.session; held = slice_set running.held client now }
+-- a session with one line more, with which a client takes a pass of a manager or gives it back
+abbrev pub held_on : Running → ℕ → Run → ℕ → Manager → Bool → Running
+held_on running n run client manager now =
+    record { session = with_line n run running.session; held = slice_set running.held client (with_pass manager now (passes_of running.held client)) }
 
 -- the client that a call names besides its caller is declared
 unfoldable pub is_receiver_known : List ClientLine → CallForm → Bool
@@ -206,15 +255,39 @@ path_call contexts (file.Stat path) = Some (call.StatFile path)
 path_call contexts (file.Relabel path context) = option_map (λ sid. call.Relabel path sid) (context_sid contexts context)
 path_call contexts said = None
 
--- the call, where it is built: one of the file manager. What it names is declared
-unfoldable pub built_call : SessionParts → CallForm → Option FileCall
-built_call session (OfFile said) = option_or (slot_call session.clients said) (path_call session.policy.contexts said)
-built_call session said = None
+-- the call of the process manager, with the identifier of its context
+unfoldable pub process_call_of : List ContextLine → ProcessForm → Option ProcessCall
+process_call_of contexts (process.Fork pid) = Some (process_call.Fork pid)
+process_call_of contexts (process.Exec pid context) = option_map (λ sid. process_call.Exec pid sid) (context_sid contexts context)
+process_call_of contexts (process.Signal pid number) = Some (process_call.Signal pid number)
+process_call_of contexts (process.Exit pid code) = Some (process_call.Exit pid code)
+process_call_of contexts (process.Wait pid) = Some (process_call.Wait pid)
+process_call_of contexts (process.Attach slot pid) = Some (process_call.Attach slot pid)
+process_call_of contexts (process.Peek slot) = Some (process_call.Peek slot)
+process_call_of contexts (process.Poke slot value) = Some (process_call.Poke slot value)
+process_call_of contexts (process.Detach slot) = Some (process_call.Detach slot)
+process_call_of contexts (process.Stat pid) = Some (process_call.StatProcess pid)
 
--- a call whose arguments are declared, where it is built
+-- the call of the port manager
+unfoldable pub port_call_of : PortForm → PortCall
+port_call_of (port.Bind slot number mode) = port_call.Bind slot number mode
+port_call_of (port.Connect slot number mode) = port_call.Connect slot number mode
+port_call_of (port.Recv slot) = port_call.Recv slot
+port_call_of (port.Push slot bytes) = port_call.Push slot bytes
+port_call_of (port.Send number bytes) = port_call.Send number bytes
+port_call_of (port.Unbind slot) = port_call.Unbind slot
+port_call_of (port.Stat number) = port_call.StatPort number
+
+-- what a client's call asks. What it names is declared.
+unfoldable pub asked_call : SessionParts → ℕ → CallForm → Option Run
+asked_call session client (OfFile said) = option_map (File client) (option_or (slot_call session.clients said) (path_call session.policy.contexts said))
+asked_call session client (OfProcess said) = option_map (Process client) (process_call_of session.policy.contexts said)
+asked_call session client (OfPort said) = Some (Port client (port_call_of said))
+
+-- a call whose arguments are declared
 unfoldable pub declared_call_read : ℕ → ℕ → CallForm → Running → Result Running FaultKind
 declared_call_read n client said running =
-    found_or Unbuilt (built_call running.session said) >>= λ built. Ok (running_on running n (File client built))
+    found_or Unbuilt (asked_call running.session client said) >>= λ run. Ok (running_on running n run)
 
 -- a call of the client of that number
 unfoldable pub numbered_call_read : ℕ → ℕ → CallForm → Running → Result Running FaultKind
@@ -229,28 +302,18 @@ client_call_read n name said running =
     if is_long name || is_past_call said then Err Limit
     else found_or Unknown (client_number running.session.clients name) >>= λ client. numbered_call_read n client said running
 
--- a client of that name holds a pass of that manager: so far only of the file manager
-unfoldable pub holds_of : Manager → Running → List ℕ → Bool
-holds_of manager.File running name = holds running name
-holds_of other running name = false
-
--- a session in which that client takes a pass of a manager or gives it back, where that is built
-unfoldable pub pass_on : Manager → Running → ℕ → Run → ℕ → Bool → Result Running FaultKind
-pass_on manager.File running n run client now = Ok (held_on running n run client now)
-pass_on other running n run client now = Err Unbuilt
-
 -- a `begin` line
 unfoldable pub begin_read : ℕ → List ℕ → Manager → Running → Result Running FaultKind
 begin_read n name manager running =
-    if holds_of manager running name then Err Order
+    if holds manager running name then Err Order
     else if is_long name then Err Limit
-    else found_or Unknown (client_number running.session.clients name) >>= λ client. pass_on manager running n (Begin client) client true
+    else found_or Unknown (client_number running.session.clients name) >>= λ client. Ok (held_on running n (Begin client manager) client manager true)
 
 -- an `end` line
 unfoldable pub end_read : ℕ → List ℕ → Manager → Running → Result Running FaultKind
 end_read n name manager running =
-    if not (holds_of manager running name) then Err Order
-    else found_or Unknown (client_number running.session.clients name) >>= λ client. pass_on manager running n (End client) client false
+    if not (holds manager running name) then Err Order
+    else found_or Unknown (client_number running.session.clients name) >>= λ client. Ok (held_on running n (End client manager) client manager false)
 
 -- a `notify` line
 unfoldable pub notify_read : ℕ → ℕ → Running → Result Running FaultKind

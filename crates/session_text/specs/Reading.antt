@@ -30,7 +30,7 @@ is_session_line line = begins_session (words_of line)
 
 -- the session of a policy, with nothing there yet
 abbrev pub session_of_policy : PolicyParts → SessionParts
-session_of_policy policy = record { policy = policy; root = None; nodes = []; clients = []; lines = [] }
+session_of_policy policy = record { policy = policy; root = None; port = None; ports = []; nodes = []; clients = []; lines = [] }
 
 -- `session`, alone in its line
 unfoldable pub is_alone : List (List ℕ) → Bool

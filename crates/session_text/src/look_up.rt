@@ -14,6 +14,7 @@ use crate::session::ClientLine;
 use file_calls::{FilePath, Node};
 use flask_sid::{ContextOf, Sid, Word};
 use policy_text::ContextLine;
+use port_calls::LabelledPort;
 
 /// The identifier of a declared context: its place among the `context` lines, from 1.
 #[tactic(auto, unfolding(crate::specs::Grammar::context_sid))]
@@ -74,6 +75,14 @@ pub fn has_client(clients: &[ClientLine], name: &Word<'_>) -> bool
     ensures { result ≡ Grammar.has_client clients.now name.now }
 {
     clients.iter().any(|client| client.name.is(name))
+}
+
+/// Whether a port of that number has a context of its own.
+#[tactic(auto, unfolding(crate::specs::Grammar::has_port))]
+pub fn has_port(ports: &[LabelledPort], number: u32) -> bool
+    ensures { result ≡ Grammar.has_port ports.now number }
+{
+    ports.iter().any(|line| line.port == number)
 }
 
 /// Whether a node of that path is there.

@@ -5,7 +5,7 @@ ghost use Rattle.session_text.specs.Ranges;
 ghost use Rattle.session_text.specs.ArgumentForms.{IsCallForm, IsRunForm};
 ghost use Rattle.session_text.specs.Sessions.{IsRun, IsSidOf};
 
-use crate::built::built_call;
+use crate::built::asked_call;
 use crate::call_forms::{CallForm, FileForm, ProcessForm};
 use crate::look_up::{client_number, has_client};
 use crate::ranges::is_past_call;
@@ -16,11 +16,53 @@ use std::alloc::Global;
 use std::marker::Model;
 use text_lines::{FaultKind, Refusal};
 
-/// A session whose lines run, and which clients hold a pass of the file manager so far, by number.
+/// Of which managers a client holds a pass.
+#[derive(Clone, Copy, Debug)]
+pub struct ClientPasses {
+    pub file: bool,
+    pub process: bool,
+    pub port: bool,
+}
+
+impl ClientPasses {
+    /// A client that holds no pass.
+    const NONE: ClientPasses = ClientPasses {
+        file: false,
+        process: false,
+        port: false,
+    };
+
+    /// Whether the client holds a pass of a manager.
+    fn has(self, manager: Manager) -> bool
+        ensures { result ≡ Grammar.has_pass manager self }
+    {
+        match manager {
+            Manager::File => self.file,
+            Manager::Process => self.process,
+            Manager::Port => self.port,
+        }
+    }
+
+    /// The client with a pass of a manager, or without.
+    fn with(self, manager: Manager, now: bool) -> ClientPasses
+        ensures { result ≡ Grammar.with_pass manager now self }
+    {
+        match manager {
+            Manager::File => ClientPasses { file: now, ..self },
+            Manager::Process => ClientPasses {
+                process: now,
+                ..self
+            },
+            Manager::Port => ClientPasses { port: now, ..self },
+        }
+    }
+}
+
+/// A session whose lines run, and which passes each client holds so far, by number.
 #[derive(Debug, Drop)]
 pub struct Running {
     session: Session,
-    held: Vec<bool>,
+    held: Vec<ClientPasses>,
 }
 
 impl Model for Running {
@@ -58,34 +100,26 @@ impl Running {
         client_number(self.session.clients(), name)
     }
 
-    fn holds(&self, name: &Word<'_>) -> bool
-        ensures { result ≡ Grammar.holds self.now name.now }
+    /// Whether a client of that name holds a pass of that manager.
+    #[tactic(auto, unfolding(crate::specs::Grammar::holds))]
+    fn holds(&self, manager: Manager, name: &Word<'_>) -> bool
+        ensures { result ≡ Grammar.holds manager self.now name.now }
     {
         match self.number(name) {
             None => false,
-            Some(client) => self.is_held(client),
+            Some(client) => self.passes_of(client).has(manager),
         }
     }
 
-    /// Whether a client of that name holds a pass of that manager.
-    #[tactic(auto, unfolding(crate::specs::Grammar::holds_of))]
-    fn holds_of(&self, manager: Manager, name: &Word<'_>) -> bool
-        ensures { result ≡ Grammar.holds_of manager self.now name.now }
-    {
-        match manager {
-            Manager::File => self.holds(name),
-            _ => false,
-        }
-    }
-
-    fn is_held(&self, client: u8) -> bool
-        ensures { result ≡ Grammar.is_held self.now.held client }
+    /// The passes that a client holds.
+    fn passes_of(&self, client: u8) -> ClientPasses
+        ensures { result ≡ Grammar.passes_of self.now.held client }
     {
         self.held
             .as_slice()
             .get(usize::from(client))
             .copied()
-            .unwrap_or(false)
+            .unwrap_or(ClientPasses::NONE)
     }
 
     fn with_line(self, line: u32, run: Run) -> Result<Running, Memory>
@@ -97,23 +131,31 @@ impl Running {
         Ok(Running { session, held })
     }
 
-    fn with_pass(self, line: u32, run: Run, client: u8, now: bool) -> Result<Running, Memory>
+    fn with_pass(
+        self,
+        line: u32,
+        run: Run,
+        client: u8,
+        manager: Manager,
+        now: bool,
+    ) -> Result<Running, Memory>
         requires run { IsRun (IsSidOf self.session.policy.contexts) (length self.session.clients) run }
         requires client { client < length self.session.clients }
-        ensures { IfOk result (λ next. next ≡ Grammar.held_on self line run client now) }
+        ensures { IfOk result (λ next. next ≡ Grammar.held_on self line run client manager now) }
     {
+        let passes = self.passes_of(client).with(manager, now);
         let Running { session, mut held } = self;
-        held[usize::from(client)] = now;
+        held[usize::from(client)] = passes;
         let session = session.with_line(line, run)?;
         Ok(Running { session, held })
     }
 }
 
-fn none_held(alloc: Global, clients: usize) -> Result<Vec<bool>, Memory>
-    ensures { IfOk result (λ held. held.items ≡ replicate clients false) }
+fn none_held(alloc: Global, clients: usize) -> Result<Vec<ClientPasses>, Memory>
+    ensures { IfOk result (λ held. held.items ≡ replicate clients Grammar.no_pass) }
 {
     let mut held = Vec::new(alloc);
-    held.resize(clients, false)?;
+    held.resize(clients, ClientPasses::NONE)?;
     Ok(held)
 }
 
@@ -211,7 +253,7 @@ fn numbered_call_read(
     declared_call_read(alloc, line, client, form, running)
 }
 
-/// A call whose arguments are declared, where it is built.
+/// A call whose arguments are declared.
 #[tactic(auto, unfolding(crate::specs::Grammar::declared_call_read))]
 fn declared_call_read(
     alloc: Global,
@@ -225,10 +267,10 @@ fn declared_call_read(
     requires forms { IsCallForm form }
     ensures { Gives result (Grammar.declared_call_read line client form.entry running) }
 {
-    let Some(call) = built_call(alloc, &running.session, form)? else {
+    let Some(run) = asked_call(alloc, &running.session, client, form)? else {
         return Err(Refusal::Fault(FaultKind::Unbuilt));
     };
-    Ok(running.with_line(line, Run::File { client, call })?)
+    Ok(running.with_line(line, run)?)
 }
 
 /// Whether the client that a call names besides its caller is declared.
@@ -256,26 +298,6 @@ fn is_context_known(session: &Session, form: &CallForm<'_>) -> bool
     }
 }
 
-/// A client takes a pass of a manager or gives it back, where that is built.
-#[tactic(auto, unfolding(crate::specs::Grammar::pass_on))]
-fn pass_on(
-    manager: Manager,
-    line: u32,
-    run: Run,
-    client: u8,
-    now: bool,
-    running: Running,
-) -> Result<Running, Refusal>
-    requires run { IsRun (IsSidOf running.session.policy.contexts) (length running.session.clients) run }
-    requires client { client < length running.session.clients }
-    ensures { Gives result (Grammar.pass_on manager running line run client now) }
-{
-    match manager {
-        Manager::File => Ok(running.with_pass(line, run, client, now)?),
-        _ => Err(Refusal::Fault(FaultKind::Unbuilt)),
-    }
-}
-
 #[tactic(auto, unfolding(crate::specs::Grammar::begin_read))]
 fn begin_read(
     line: u32,
@@ -285,7 +307,7 @@ fn begin_read(
 ) -> Result<Running, Refusal>
     ensures { Gives result (Grammar.begin_read line name.entry manager running) }
 {
-    if running.holds_of(manager, &name) {
+    if running.holds(manager, &name) {
         return Err(Refusal::Fault(FaultKind::Order));
     }
     if name.is_long() {
@@ -294,7 +316,8 @@ fn begin_read(
     let Some(client) = running.number(&name) else {
         return Err(Refusal::Fault(FaultKind::Unknown));
     };
-    pass_on(manager, line, Run::Begin { client }, client, true, running)
+    let run = Run::Begin { client, manager };
+    Ok(running.with_pass(line, run, client, manager, true)?)
 }
 
 #[tactic(auto, unfolding(crate::specs::Grammar::end_read))]
@@ -306,11 +329,12 @@ fn end_read(
 ) -> Result<Running, Refusal>
     ensures { Gives result (Grammar.end_read line name.entry manager running) }
 {
-    if !running.holds_of(manager, &name) {
+    if !running.holds(manager, &name) {
         return Err(Refusal::Fault(FaultKind::Order));
     }
     let Some(client) = running.number(&name) else {
         return Err(Refusal::Fault(FaultKind::Unknown));
     };
-    pass_on(manager, line, Run::End { client }, client, false, running)
+    let run = Run::End { client, manager };
+    Ok(running.with_pass(line, run, client, manager, false)?)
 }

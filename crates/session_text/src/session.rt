@@ -1,11 +1,14 @@
 ghost use Rattle.std.specs.Prelude.{◌≡◌, ◌<◌, ◌≤◌, [], length, None, IfOk, IfSome};
-ghost use Rattle.session_text.specs.Sessions.{IsSession, IsSidOf, IsPlace, IsRun};
+ghost use Rattle.session_text.specs.Sessions.{IsSession, IsSidOf, IsPlace, IsPortPlace, IsRun};
 ghost use Rattle.session_text.specs.Grammar;
 
 use crate::look_up::context_sid;
+use crate::run_forms::Manager;
 use file_calls::{FileCall, FilePath, Node};
 use flask_sid::{ContextOf, Memory, Name, Piece, Rows, Sid, Word};
 use policy_text::{ContextLine, PolicyText};
+use port_calls::{LabelledPort, PortCall};
+use process_calls::ProcessCall;
 use std::alloc::Global;
 use std::marker::Model;
 
@@ -22,10 +25,14 @@ pub struct ClientLine {
 pub enum Run {
     /// A client's call of the file manager.
     File { client: u8, call: FileCall },
-    /// A client takes a pass of the file manager, and holds it.
-    Begin { client: u8 },
-    /// A client gives its held pass of the file manager back.
-    End { client: u8 },
+    /// A client's call of the process manager.
+    Process { client: u8, call: ProcessCall },
+    /// A client's call of the port manager.
+    Port { client: u8, call: PortCall },
+    /// A client takes a pass of a manager, and holds it.
+    Begin { client: u8, manager: Manager },
+    /// A client gives its held pass of a manager back.
+    End { client: u8, manager: Manager },
     /// The administrator chooses a version.
     Notify { ver: u8 },
     /// The administrator lets the first `k` stale slots of each manager follow the pending number.
@@ -47,6 +54,10 @@ pub struct SessionParts {
     pub policy: PolicyText,
     /// The place of the root's context, where an `initial root` line gives it.
     pub root: Option<Sid>,
+    /// The place of the context of ports without a line of their own, where an `initial port` line gives it.
+    pub port: Option<Sid>,
+    /// The ports with contexts of their own. A port's `sid` is the place of its context, from 1.
+    pub ports: Rows<LabelledPort>,
     /// The files and directories that are there at the start. A node's `sid` is the place of its context among the
     /// `context` lines, from 1.
     pub nodes: Rows<Node>,
@@ -54,9 +65,9 @@ pub struct SessionParts {
     pub lines: Rows<RunLine>,
 }
 
-/// A session. It keeps what the grammar asks of one: root, nodes and clients have declared contexts, each node stands
-/// in a directory before it, the clients are at most 62, and each line is one of a client of the session, with numbers
-/// in their ranges and of declared names.
+/// A session. It keeps what the grammar asks of one: root, ports, nodes and clients have declared contexts, each node
+/// stands in a directory before it, the clients are at most 62, and each line is one of a client of the session, with
+/// numbers in their ranges and of declared names.
 #[derive(Debug, Drop)]
 pub struct Session {
     parts: SessionParts,
@@ -118,12 +129,14 @@ impl Session {
 impl Session {
     /// The session of a policy, with nothing there yet.
     pub(crate) fn begun(alloc: Global, policy: PolicyText) -> Session
-        ensures { result ≡ record { policy = policy; root = None; nodes = []; clients = []; lines = [] } }
+        ensures { result ≡ record { policy = policy; root = None; port = None; ports = []; nodes = []; clients = []; lines = [] } }
     {
         Session {
             parts: SessionParts {
                 policy,
                 root: None,
+                port: None,
+                ports: Rows::new(alloc),
                 nodes: Rows::new(alloc),
                 clients: Rows::new(alloc),
                 lines: Rows::new(alloc),
@@ -138,6 +151,24 @@ impl Session {
         let Session { mut parts } = self;
         parts.root = Some(sid);
         Session { parts }
+    }
+
+    pub(crate) fn with_initial_port(self, sid: Sid) -> Session
+        requires { IsSidOf self.policy.contexts sid }
+        ensures { result ≡ Grammar.with_initial_port sid self }
+    {
+        let Session { mut parts } = self;
+        parts.port = Some(sid);
+        Session { parts }
+    }
+
+    pub(crate) fn with_port(self, port: u32, sid: Sid) -> Result<Session, Memory>
+        requires { IsPortPlace self.policy.contexts port sid }
+        ensures { IfOk result (λ next. next ≡ Grammar.with_port port sid self) }
+    {
+        let Session { mut parts } = self;
+        parts.ports.push(LabelledPort { port, sid })?;
+        Ok(Session { parts })
     }
 
     pub(crate) fn with_node(

@@ -4,9 +4,10 @@ ghost use Rattle.std.specs.Prelude.{◌≡◌, ◌<◌, Some, length, IfOk, OnOk
 ghost use Rattle.std.specs.Bool.{OnFalse};
 ghost use Rattle.text_lines.specs.Refusals.{Gives};
 ghost use Rattle.session_text.specs.Grammar;
-ghost use Rattle.session_text.specs.Sessions.{IsPlace, IsSidOf};
+ghost use Rattle.port_calls.specs.Formed.{IsPort};
+ghost use Rattle.session_text.specs.Sessions.{IsPlace, IsPortPlace, IsSidOf};
 
-use crate::look_up::{has_client, has_node, is_parent_there};
+use crate::look_up::{has_client, has_node, has_port, is_parent_there};
 use crate::parts::Parts;
 use crate::ranges::{is_long_data, is_past_place};
 use crate::session::{ClientLine, Session};
@@ -17,6 +18,8 @@ use std::alloc::Global;
 use text_lines::{FaultKind, Refusal};
 
 const NODE_LIMIT: usize = 4_095;
+
+const PORT_LIMIT: usize = 1_024;
 
 const CLIENT_LIMIT: usize = 62;
 
@@ -191,7 +194,7 @@ pub fn initial_read(
     }
 }
 
-/// Whose context a declared one is to be: the root's, where it has none yet. That of the ports is not built.
+/// Whose context a declared one is to be: the root's or that of the ports, where there is none yet.
 #[tactic(auto, unfolding(crate::specs::Grammar::initial_with))]
 fn initial_with(what: Initial, sid: Sid, session: Session) -> Result<Session, Refusal>
     requires { IsSidOf session.policy.contexts sid }
@@ -204,24 +207,49 @@ fn initial_with(what: Initial, sid: Sid, session: Session) -> Result<Session, Re
             }
             Ok(session.with_root(sid))
         }
-        Initial::Ports => Err(Refusal::Fault(FaultKind::Unbuilt)),
+        Initial::Ports => {
+            if session.parts().port.is_some() {
+                return Err(Refusal::Fault(FaultKind::Twice));
+            }
+            Ok(session.with_initial_port(sid))
+        }
     }
 }
 
-/// A `port` line, which is not built yet.
+/// A `port` line.
 #[tactic(auto, unfolding(crate::specs::Grammar::port_read))]
 pub fn port_read(
-    port: u64,
+    number: u64,
     context: ContextOf<Word<'_>>,
     session: Session,
 ) -> Result<Session, Refusal>
-    ensures { Gives result (Grammar.port_read port context.entry session) }
+    ensures { Gives result (Grammar.port_read number context.entry session) }
 {
-    if is_past_place(port) || context.is_long() {
+    if is_past_port_line(number, &context, session.parts().ports.len()) {
         return Err(Refusal::Fault(FaultKind::Limit));
     }
     match session.sid_of(&context) {
         None => Err(Refusal::Fault(FaultKind::Undeclared)),
-        Some(_sid) => Err(Refusal::Fault(FaultKind::Unbuilt)),
+        Some(sid) => port_with(number as u32, sid, session),
     }
+}
+
+#[tactic(auto, unfolding(crate::specs::Grammar::is_past_port_line))]
+fn is_past_port_line(number: u64, context: &ContextOf<Word<'_>>, ports: usize) -> bool
+    ensures value { result ≡ Grammar.is_past_port_line number context.now ports }
+    ensures within { OnFalse result (IsPort number) }
+{
+    is_past_place(number) || context.is_long() || ports >= PORT_LIMIT
+}
+
+/// A declared context is to be that of a port, where it has none of its own yet.
+#[tactic(auto, unfolding(crate::specs::Grammar::port_with))]
+fn port_with(number: u32, sid: Sid, session: Session) -> Result<Session, Refusal>
+    requires { IsPortPlace session.policy.contexts number sid }
+    ensures { Gives result (Grammar.port_with number sid session) }
+{
+    if has_port(session.parts().ports.as_slice(), number) {
+        return Err(Refusal::Fault(FaultKind::Twice));
+    }
+    Ok(session.with_port(number, sid)?)
 }

@@ -5,7 +5,7 @@ use Rattle.session_text.specs.declared.session.RunLine.{RunLine}
 use Rattle.flask_io.specs.Streams.{Adds}
 use Rattle.flaskd_run.specs.Texts.{summary_text}
 use Rattle.flaskd_run.specs.Writing.{AddsFront}
-use Rattle.flaskd_run.proofs.SerialLemmas.{line_written, line_failed, all_behind, all_first, no_items, calls_after, changes_after, on_ok, on_err, on_err_always, all_written, last_failed}
+use Rattle.flaskd_run.proofs.SerialLemmas.{line_written, line_failed, all_behind, all_first, no_items, calls_after, changes_after, in_step_after, clients_after, on_ok, on_err, on_err_always, all_written, last_failed}
 use Rattle.flaskd_run.proofs.serial.run_lines.Goals as goal
 
 pub run_line-requires-clause-formed : goal.run_line-requires-clause-formed
@@ -25,7 +25,8 @@ lines-preserved g c =
           kept.written step.0 (ap g.D.Decider.decides kept.decider) ran.text ran.day c.in_ok-put_line.ensures.ok;
       later = omega (arith, kept.later, c.put_line.ensures.cause.later);
       decider = ran.decider ∙ kept.decider;
-      opening = ap (λ o. length o.clients) ran.opening ∙ kept.opening;
+      clients = clients_after (length c.args.clients.now) c.lines.desk.day c.run_line.new.desk.day kept.clients ran.opening;
+      in_step = rw (← ran.day) at (in_step_after (g.D.Decider.decides c.lines.desk.decider) c.lines.desk.day c.in-Some.line.run kept.in_step);
       formed = all_behind (λ (line : RunLine). IsRun (λ sid. IsTrue ((g.D.Decider.decides c.args.desk.now.decider).known sid)) (length c.args.clients.now) line.run) _ _ c.in-Some.line step.0 kept.formed;
       left = omega (arith, step.1, kept.left, behind);
       calls = omega (arith, kept.calls, behind, rw (← ran.day) at (calls_after (g.D.Decider.decides c.lines.desk.decider) c.lines.desk.day c.in-Some.line.run));

@@ -1,6 +1,7 @@
 use Rattle.std.proofs.Common.{◌≡◌, ◌≤◌, ◌<◌, ◌+◌, ◌^◌, length, All, IsTrue}
 use Rattle.std.specs.Vec.Iter.{into_iter_items, into_iter_len}
 use Rattle.session_text.specs.Sessions.{IsRun}
+use Rattle.session_desk.specs.Desks.{HasClients, IsInStep}
 use Rattle.flaskd_run.specs.Serial.{lines_text}
 use Rattle.flaskd_run.specs.Writing.{IsOffered}
 use Rattle.flaskd_run.proofs.serial.run_lines.Given as goal
@@ -13,7 +14,8 @@ invariant-lines g l =
           (lines_text l.contexts (g.D.Decider.decides l.fn.desk.decider) l.clients l.desk.day (into_iter_items l.line-iterator));
       later : g.K.Sink.faults l.fn.sink ≤ g.K.Sink.faults l.sink;
       decider : l.desk.decider ≡ l.fn.desk.decider;
-      opening : length l.desk.day.files.opening.clients ≡ length l.clients;
+      clients : HasClients (length l.clients) l.desk.day;
+      in_step : IsInStep l.desk.day;
       formed : All (λ line. IsRun (λ sid. IsTrue ((g.D.Decider.decides l.fn.desk.decider).known sid)) (length l.clients) line.run) (into_iter_items l.line-iterator);
       left : into_iter_len l.line-iterator ≡ length (into_iter_items l.line-iterator);
       calls : l.desk.day.calls + length (into_iter_items l.line-iterator) < 2 ^ 64;

@@ -1,7 +1,7 @@
 use Rattle.std.proofs.Common.{sym, ap}
 use Rattle.session_text.specs.declared.session.SessionParts.{SessionParts}
 use Rattle.policy_versions.specs.Compiling.{sids_of, decides_of}
-use Rattle.flaskd_run.proofs.SerialLemmas.{declared_known, opening_known}
+use Rattle.flaskd_run.proofs.SerialLemmas.{declared_known, openings_known}
 use Rattle.flaskd_run.proofs.TopLemmas.{refused_policy, ok_served, failed_served, cut_served}
 use Rattle.flaskd_run.proofs.top.run.Goals as goal
 
@@ -10,9 +10,9 @@ returns-in-Err-clause-served g c =
     refused_policy c.args.session c.into_parts-parts.result.policy c.in-Err.fault c.refused.result _
     (ap (λ (s : SessionParts). s.policy) (sym c.into_parts-parts.ensures.value)) c.in-Err.ensures (rw c.parts-policy.ensures.parts at c.refused.ensures)
 
-pub serial-requires-clause-opening : goal.serial-requires-clause-opening
-serial-requires-clause-opening g c =
-    opening_known c.into_parts-parts.result (decides_of c.in-Ok.catalogue)
+pub serial-requires-clause-openings : goal.serial-requires-clause-openings
+serial-requires-clause-openings g c =
+    openings_known c.into_parts-parts.result (decides_of c.in-Ok.catalogue)
     (rw (← c.into_parts-parts.ensures.value) at c.into_parts-parts.ensures.kept) c.parts-policy.ensures.kept.context
     (declared_known c.into_parts-parts.result.policy (sids_of c.in-Ok.catalogue) (decides_of c.in-Ok.catalogue) c.in-Ok.ensures.judged.1 c.in-Ok.ensures.decides)
 

@@ -1,0 +1,130 @@
+-- What the desk of a run keeps.
+use Rattle.std.specs.Prelude.{◌≡◌, ℕ, List, length, Option, Some, None, Result, Ok, Err, refl}
+use Rattle.std.specs.Coded.{Coded, code_by, coded×, coded_list, coded_option, coded_ℕ}
+use Rattle.std.specs.Ordering.{nat_cmp}
+use Rattle.std.specs.FinMap as maps
+use Rattle.std.specs.FinMap.{FinMap}
+use Rattle.access_vectors.specs.Decisions.{Decisions}
+use Rattle.access_vectors.specs.Phases.{number_of}
+use Rattle.access_vectors.specs.Stale.{Follows}
+use Rattle.access_vectors.specs.contracts.phase.Phase as phase_type
+use Rattle.access_vectors.specs.declared.phase.Phase.{Phase}
+use Rattle.manager_history.specs.declared.answers.NotifyFault.{NotifyFault}
+use Rattle.manager_history.specs.declared.answers.NotifyFault.TheVariants as faults
+use Rattle.managed.specs.Posts.{Post}
+use Rattle.file_calls.specs.Openings as file_openings
+use Rattle.file_tree.specs.Plain.{PlainTree, Item}
+use Rattle.file_tree.specs.contracts.step.Step as step_type
+use Rattle.file_tree.specs.declared.step.Step.{Step}
+use Rattle.file_calls.specs.States as file_states
+use Rattle.file_calls.specs.States.{FileState}
+use Rattle.file_calls.specs.contracts.opening.FileOpening as file_opening_type
+use Rattle.file_calls.specs.declared.opening.FileOpening.{FileOpening}
+use Rattle.process_calls.specs.States as process_states
+use Rattle.process_calls.specs.States.{ProcessState}
+use Rattle.process_calls.specs.contracts.opening.ProcessOpening as process_opening_type
+use Rattle.process_calls.specs.contracts.process.Process as process_type
+use Rattle.process_calls.specs.declared.opening.ProcessOpening.{ProcessOpening}
+use Rattle.process_calls.specs.declared.process.Process.{Process}
+use Rattle.port_calls.specs.States as port_states
+use Rattle.port_calls.specs.States.{PortState, Bound}
+use Rattle.port_calls.specs.contracts.opening.PortOpening as port_opening_type
+use Rattle.port_calls.specs.declared.opening.PortOpening.{PortOpening}
+use Rattle.session_desk.specs.Days.{Day}
+use Rattle.session_desk.specs.declared.opening.Openings.{Openings}
+
+-- what contracts see of a desk: where the run stands, and what decides
+pub record Standing (Decider : Type 0) : Type 0 where
+  pub day : Day
+  pub decider : Decider
+
+-- how a proof tells two of them apart: by the fields
+abbrev pub file_held_code : Coded file_states.Held
+file_held_code = code_by (List Step × ℕ) (coded× (coded_list step_type.the_row.coded) coded_ℕ) (λ held. (held.path, held.mode)) (λ p. record { path = p.0; mode = p.1 }) (λ _. refl)
+
+abbrev pub item_code : Coded Item
+item_code = code_by (ℕ × Option (List ℕ)) (coded× coded_ℕ (coded_option (coded_list coded_ℕ))) (λ item. (item.label, item.bytes)) (λ p. record { label = p.0; bytes = p.1 }) (λ _. refl)
+
+abbrev pub file_state_code : Coded FileState
+file_state_code =
+    code_by (FileOpening × (PlainTree × FinMap nat_cmp file_states.Held))
+    (coded× file_opening_type.the_row.coded (coded× (maps.code (coded_list step_type.the_row.coded) item_code) (maps.code coded_ℕ file_held_code)))
+    (λ state. (state.opening, (state.tree, state.slots)))
+    (λ p. record { opening = p.0; tree = p.1.0; slots = p.1.1 })
+    (λ _. refl)
+
+abbrev pub process_state_code : Coded ProcessState
+process_state_code =
+    code_by (ProcessOpening × (FinMap nat_cmp Process × FinMap nat_cmp ℕ))
+    (coded× process_opening_type.the_row.coded (coded× (maps.code coded_ℕ process_type.the_row.coded) (maps.code coded_ℕ coded_ℕ)))
+    (λ state. (state.opening, (state.processes, state.slots)))
+    (λ p. record { opening = p.0; processes = p.1.0; slots = p.1.1 })
+    (λ _. refl)
+
+abbrev pub bound_code : Coded Bound
+bound_code = code_by (ℕ × List (List ℕ)) (coded× coded_ℕ (coded_list (coded_list coded_ℕ))) (λ bound. (bound.owner, bound.messages)) (λ p. record { owner = p.0; messages = p.1 }) (λ _. refl)
+
+abbrev pub port_held_code : Coded port_states.Held
+port_held_code = code_by (ℕ × ℕ) (coded× coded_ℕ coded_ℕ) (λ held. (held.port, held.mode)) (λ p. record { port = p.0; mode = p.1 }) (λ _. refl)
+
+abbrev pub port_state_code : Coded PortState
+port_state_code =
+    code_by (PortOpening × (FinMap nat_cmp Bound × FinMap nat_cmp port_states.Held))
+    (coded× port_opening_type.the_row.coded (coded× (maps.code coded_ℕ bound_code) (maps.code coded_ℕ port_held_code)))
+    (λ state. (state.opening, (state.ports, state.slots)))
+    (λ p. record { opening = p.0; ports = p.1.0; slots = p.1.1 })
+    (λ _. refl)
+
+abbrev pub post_code : {State : Type 0} → Coded State → Coded (Post State)
+post_code {State = State} code =
+    code_by (State × (Follows × (Phase × List (Option ℕ)))) (coded× code (coded× (maps.code coded_ℕ coded_ℕ) (coded× phase_type.the_row.coded (coded_list (coded_option coded_ℕ)))))
+    (λ post. (post.state, (post.follows, (post.phase, post.held))))
+    (λ p. record { state = p.0; follows = p.1.0; phase = p.1.1.0; held = p.1.1.1 })
+    (λ _. refl)
+
+abbrev pub day_code : Coded Day
+day_code =
+    code_by (Post FileState × (Post ProcessState × (Post PortState × (ℕ × (ℕ × ℕ)))))
+    (coded× (post_code file_state_code) (coded× (post_code process_state_code) (coded× (post_code port_state_code) (coded× coded_ℕ (coded× coded_ℕ coded_ℕ)))))
+    (λ day. (day.files, (day.processes, (day.ports, (day.calls, (day.denied, day.changes))))))
+    (λ p. record { files = p.0; processes = p.1.0; ports = p.1.1.0; calls = p.1.1.1.0; denied = p.1.1.1.1.0; changes = p.1.1.1.1.1 })
+    (λ _. refl)
+
+abbrev pub standing_code : {Decider : Type 0} → Coded Decider → Coded (Standing Decider)
+standing_code {Decider = Decider} code =
+    code_by (Day × Decider) (coded× day_code code) (λ standing. (standing.day, standing.decider)) (λ p. record { day = p.0; decider = p.1 }) (λ _. refl)
+
+-- the identifiers of what the managers are opened with are the decider's, and the files' nodes are those of a tree
+pub record AreOpenings (d : Decisions) (openings : Openings) : Type 0 where
+  pub files : file_openings.IsOpening d openings.files
+  pub nodes : file_openings.AreNodes openings.files.nodes
+  pub processes : process_states.IsOpening d openings.processes
+  pub ports : port_states.IsOpening d openings.ports
+
+-- the managers were opened with the same
+pub record IsSameOpening (old new : Day) : Type 0 where
+  pub files : new.files.state.opening ≡ old.files.state.opening
+  pub processes : new.processes.state.opening ≡ old.processes.state.opening
+  pub ports : new.ports.state.opening ≡ old.ports.state.opening
+
+-- each manager was opened with so many clients
+pub record HasClients (count : ℕ) (day : Day) : Type 0 where
+  pub files : length day.files.state.opening.clients ≡ count
+  pub processes : length day.processes.state.opening.clients ≡ count
+  pub ports : length day.ports.state.opening.clients ≡ count
+
+-- the newest policy number is the same for each manager: where one has its notice of a change, each has
+pub record IsInStep (day : Day) : Type 0 where
+  pub processes : number_of day.processes.phase ≡ number_of day.files.phase
+  pub ports : number_of day.ports.phase ≡ number_of day.files.phase
+
+-- the administrator's choice was refused for this cause, or begun under the next number; want of memory is free
+abbrev pub IsSaid : Result ℕ NotifyFault → Option NotifyFault → ℕ → Type 0
+IsSaid (Ok number) refusal next = (refusal ≡ None) × (number ≡ next)
+IsSaid (Err faults.Memory) refusal next = Unit {0}
+IsSaid (Err fault) refusal next = refusal ≡ Some fault
+
+-- unless memory was wanting, this is the day after
+abbrev pub IsDayUnlessMemory : Result ℕ NotifyFault → Day → Day → Type 0
+IsDayUnlessMemory (Err faults.Memory) new after = Unit {0}
+IsDayUnlessMemory said new after = new ≡ after

@@ -1,0 +1,14 @@
+//! The three managers of a session on one thread, and the counts of its summary.
+//!
+//! A `Desk` does what a session's lines ask: clients' calls and passes, and the administrator's change of policy across the
+//! three managers, which is complete only where each of them has acknowledged it.
+#![tactic(auto)]
+
+mod acts;
+mod changes;
+mod desk;
+mod opening;
+
+pub use changes::{Acks, Left};
+pub use desk::{Acted, Desk};
+pub use opening::Openings;

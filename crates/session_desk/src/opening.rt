@@ -1,0 +1,11 @@
+use file_calls::FileOpening;
+use port_calls::PortOpening;
+use process_calls::ProcessOpening;
+
+/// What the three managers are opened with.
+#[derive(Debug, Drop)]
+pub struct Openings {
+    pub files: FileOpening,
+    pub processes: ProcessOpening,
+    pub ports: PortOpening,
+}
