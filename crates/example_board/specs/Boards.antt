@@ -1,0 +1,115 @@
+-- How the board and its rights show the plain board's state: a used slot holds a grant.
+use Rattle.std.specs.Prelude.{◌≡◌, ℕ, ◌/◌, ◌≤◌, List, Some, None, Result, Ok, Err, slice_index, IsTrue, bit_and, refl}
+use Rattle.std.specs.Ordering.{nat_cmp}
+use Rattle.std.specs.FinMap as maps
+use Rattle.std.specs.FinMap.{FinMap}
+use Rattle.std.specs.Coded.{Coded, code_by, coded×, coded_list, coded_ℕ}
+use Rattle.access_vectors.specs.Decisions.{Decisions}
+use Rattle.access_vectors.specs.Mapped.{mapped}
+use Rattle.access_vectors.specs.Phases.{number_of, version_at, MayName}
+use Rattle.access_vectors.specs.Stale.{Follows, slot_place}
+use Rattle.access_vectors.specs.contracts.class.Class as class_type
+use Rattle.access_vectors.specs.contracts.phase.Phase as phase_type
+use Rattle.access_vectors.specs.declared.asked.Asked.{Asked}
+use Rattle.access_vectors.specs.declared.class.Class.{Class}
+use Rattle.access_vectors.specs.declared.class.Class.TheVariants.{File}
+use Rattle.access_vectors.specs.declared.phase.Phase.{Phase}
+use Rattle.flask_sid.specs.declared.memory.Memory.{Memory}
+use Rattle.retained_rights.specs.Rights.{Rights, Fit, follows_of}
+use Rattle.retained_rights.specs.contracts.grant.Grant as grant_type
+use Rattle.retained_rights.specs.contracts.rule.Rule as rule_type
+use Rattle.retained_rights.specs.declared.grant.Grant.{Grant}
+use Rattle.retained_rights.specs.declared.grant.Usable.{Usable}
+use Rattle.retained_rights.specs.declared.rule.Rule.{Rule}
+use Rattle.retained_rights.specs.declared.rule.Rule.TheVariants.{Each}
+use Rattle.example_board.specs.Plain.{BoardState, BoardAnswer, IsOpening, sid_of}
+use Rattle.example_board.specs.contracts.opening.BoardOpening as opening_type
+use Rattle.example_board.specs.declared.opening.BoardOpening.{BoardOpening}
+use Rattle.example_board.specs.declared.call.BoardReply.{BoardReply}
+
+-- what contracts see of the board: what it was opened with, the number on it, and the rights
+pub record Shown : Type 0 where
+  pub opening : BoardOpening
+  pub posted : ℕ
+  pub rights : Rights
+
+-- how contracts tell such values apart
+abbrev pub shown_code : Coded Shown
+shown_code =
+    code_by (BoardOpening × (ℕ × (Rule × (Class × (Phase × (maps.FinMap nat_cmp Grant × List ℕ))))))
+    (coded× opening_type.the_row.coded (coded× coded_ℕ (coded× rule_type.the_row.coded
+    (coded× class_type.the_row.coded (coded× phase_type.the_row.coded
+    (coded× (maps.code coded_ℕ grant_type.the_row.coded) (coded_list coded_ℕ)))))))
+    (λ v. (v.opening, (v.posted, (v.rights.rule, (v.rights.class, (v.rights.phase, (v.rights.held, v.rights.stale)))))))
+    (λ p. record {
+      opening = p.0;
+      posted = p.1.0;
+      rights = record { rule = p.1.1.0; class = p.1.1.1.0; phase = p.1.1.1.1.0; held = p.1.1.1.1.1.0; stale = p.1.1.1.1.1.1 };
+    }) (λ _. refl)
+
+-- the plain slots: a grant's mode
+abbrev pub slots_of : FinMap nat_cmp Grant → FinMap nat_cmp ℕ
+slots_of held = mapped (λ place grant. grant.mode) held
+
+-- the state that the plain board sees
+abbrev pub state_of : Shown → BoardState
+state_of shown = record { opening = shown.opening; posted = shown.posted; slots = slots_of shown.rights.held }
+
+-- the policy number that each used slot follows
+abbrev pub follows : Shown → Follows
+follows shown = follows_of shown.rights
+
+-- the grant of a slot is for the pair of the client and the board, and its number is no newer than the newest
+pub record IsLinked (opening : BoardOpening) (newest : ℕ) (place : ℕ) (grant : Grant) : Type 0 where
+  pub target : opening.label ≡ grant.t
+  pub source : slice_index opening.clients (place / 256) ≡ grant.s
+  pub number : grant.number ≤ newest
+
+-- board and rights are in step
+pub record IsInStep (shown : Shown) : Type 0 where
+  pub linked : (place : ℕ) (grant : Grant) → maps.get shown.rights.held place ≡ Some grant
+      → IsLinked shown.opening (number_of shown.rights.phase) place grant
+  pub rule : shown.rights.rule ≡ Each
+  pub class : shown.rights.class ≡ File
+
+-- the promise under a decider: board and rights are in step, the identifiers are the decider's, and the rights are those
+-- that the decider gives
+pub record IsSafe (d : Decisions) (shown : Shown) : Type 0 where
+  pub step : IsInStep shown
+  pub known : IsOpening d shown.opening
+  pub rights : Fit d shown.rights
+
+-- the same as a word, which rows pass on unread
+unfoldable pub Safe : Decisions → Shown → Type 0
+Safe d shown = IsSafe d shown
+
+-- under a decider, a use of a client's slot is of the slot's mode, for the pair of the client and the board, and its bits
+-- are those of its mode that the policy number which it follows allows
+pub record IsUse (d : Decisions) (shown : Shown) (client slot : ℕ) (usable : Usable) : Type 0 where
+  pub held : maps.get (state_of shown).slots (slot_place client slot) ≡ Some usable.mode
+  pub following : maps.get (follows shown) (slot_place client slot) ≡ Some usable.number
+  pub target : shown.opening.label ≡ usable.t
+  pub source : sid_of (state_of shown) client ≡ usable.s
+  pub known_source : IsTrue (d.known usable.s)
+  pub known_target : IsTrue (d.known usable.t)
+  pub bits : (number : ℕ) → MayName shown.rights.phase number → usable.number ≡ number
+      → usable.bits ≡ bit_and usable.mode (d.vector (version_at shown.rights.phase number) usable.s usable.t File)
+
+-- a client's slot is free
+pub record IsFree (shown : Shown) (client slot : ℕ) : Type 0 where
+  pub held : maps.get (state_of shown).slots (slot_place client slot) ≡ None
+  pub following : maps.get (follows shown) (slot_place client slot) ≡ None
+
+-- a served call replies, changes the state and asks as the plain answer says, with two equal replies; want of memory
+-- leaves all as it was
+abbrev pub Serves : Result (BoardReply × BoardReply) Memory → Shown → Shown → List Asked → BoardAnswer → Type 0
+Serves (Ok replies) old new asked answer =
+    (replies.0 ≡ answer.reply) × (replies.1 ≡ answer.reply) × (state_of new ≡ answer.state) × (asked ≡ answer.asked)
+Serves (Err memory) old new asked answer = new ≡ old
+
+-- a call that changes nothing replies and asks as the plain answer says, with two equal replies, and the plain answer
+-- leaves the state as it is
+abbrev pub Says : Result (BoardReply × BoardReply) Memory → BoardState → List Asked → BoardAnswer → Type 0
+Says (Ok replies) state asked answer =
+    (replies.0 ≡ answer.reply) × (replies.1 ≡ answer.reply) × (state ≡ answer.state) × (asked ≡ answer.asked)
+Says (Err memory) state asked answer = Unit {0}

@@ -1,0 +1,4 @@
+pub mod Plain
+pub mod Honest
+pub mod Boards
+pub mod Laws

@@ -1,0 +1,10 @@
+use flask_sid::{Rows, Sid};
+
+/// What a board is opened with. It says 0 then, and every slot is free.
+#[derive(Debug, Drop)]
+pub struct BoardOpening {
+    /// The clients' identifiers, by client number.
+    pub clients: Rows<Sid>,
+    /// The board's label.
+    pub label: Sid,
+}
