@@ -1,0 +1,4 @@
+mod ParserLemmas
+mod PlaceLemmas
+mod TextLemmas
+pub mod RangeLemmas

@@ -1,0 +1,64 @@
+-- The numbers of a command are in their ranges.
+use Rattle.std.proofs.Common.{◌≡◌, ◌≤◌, ℕ, Bool, true, false, List, [], ◌∷◌, Option, None, Some, refl, arith}
+use Rattle.std.specs.Prelude.{IfSome, ◌||◌, nat_lt, if◌then◌else◌, codes}
+use Rattle.std.specs.Str.{bytes_eq}
+use Rattle.std.proofs.lemmas.Bool.Decides.{nat_tests}
+use Rattle.text_lines.specs.Numerals.{numeral_of}
+use Rattle.text_lines.specs.OptionSteps.{◌>>=◌}
+use Rattle.command_line.specs.Commands.{number_within, serial_form, generate_form, command_of, IsWithin, IsRanged}
+use Rattle.command_line.specs.declared.command.Command.{Command}
+use Rattle.command_line.specs.declared.command.Command.TheVariants as command
+
+-- what holds of what a step gives, holds of the whole
+by_step : {A X : Type 0} (P : X → Type 0) (found : Option A) (next : A → Option X) → ((a : A) → found ≡ Some a → IfSome (next a) P) → IfSome (found >>= next) P
+by_step P None next each = tt
+by_step P (Some a) next each = each a refl
+
+-- what is found has what is said of it
+if_found : {X : Type 0} (P : X → Type 0) (found : Option X) (x : X) → IfSome found P → found ≡ Some x → P x
+if_found P None x is same = cc
+if_found P (Some y) x is same = let one : y ≡ x = cc in rw (← one) is
+
+-- a number that a numeral is lies between least and most
+number_ranged : (least most : ℕ) (word : List ℕ) → IfSome (number_within least most word) (λ number. (least ≤ number) × (number ≤ most))
+unfolding number_within
+number_ranged least most word =
+    by_step (λ number. (least ≤ number) × (number ≤ most)) (numeral_of word) (λ number. if nat_lt number least || nat_lt most number then None else Some number) (λ number said. of_number number)
+  where
+    of_number : (number : ℕ) → IfSome (if nat_lt number least || nat_lt most number then None else Some number) (λ number. (least ≤ number) × (number ≤ most))
+    of_number number =
+        elim (nat_lt number least) as (λ (low : Bool). nat_lt number least ≡ low → IfSome (if low || nat_lt most number then None else Some number) (λ number. (least ≤ number) × (number ≤ most))) [
+          | true ↦ λ low. tt
+          | false ↦ λ low. elim (nat_lt most number) as (λ (high : Bool). nat_lt most number ≡ high → IfSome (if high then None else Some number) (λ number. (least ≤ number) × (number ≤ most))) [
+            | true ↦ λ high. tt
+            | false ↦ λ high. (grind (arith, nat_tests, low), grind (arith, nat_tests, high))
+          ] refl
+        ] refl
+
+generate_ranged : (name seed clients lines : List ℕ) → IfSome (generate_form name seed clients lines) IsRanged
+unfolding generate_form
+generate_ranged name seed clients lines =
+    elim (bytes_eq name (codes "generate")) as (λ (named : Bool). IfSome (if named then (number_within 0 2147483647 seed >>= λ s. number_within 1 62 clients >>= λ c. number_within 1 90000 lines >>= λ n. Some (command.Generate s c n)) else None) IsRanged) [
+      | true ↦
+          by_step IsRanged (number_within 0 2147483647 seed) (λ s. number_within 1 62 clients >>= λ c. number_within 1 90000 lines >>= λ n. Some (command.Generate s c n)) (λ s seed_is.
+          by_step IsRanged (number_within 1 62 clients) (λ c. number_within 1 90000 lines >>= λ n. Some (command.Generate s c n)) (λ c clients_are.
+          by_step IsRanged (number_within 1 90000 lines) (λ n. Some (command.Generate s c n)) (λ n lines_are.
+          let one = if_found (λ number. (0 ≤ number) × (number ≤ 2147483647)) (number_within 0 2147483647 seed) s (number_ranged 0 2147483647 seed) seed_is in
+          let two = if_found (λ number. (1 ≤ number) × (number ≤ 62)) (number_within 1 62 clients) c (number_ranged 1 62 clients) clients_are in
+          let three = if_found (λ number. (1 ≤ number) × (number ≤ 90000)) (number_within 1 90000 lines) n (number_ranged 1 90000 lines) lines_are in
+          record { seed_is = one.1; some_client = two.0; few_clients = two.1; some_line = three.0; few_lines = three.1 })))
+      | false ↦ tt
+    ]
+
+-- the numbers of any command
+pub command_ranged : (words : List (List ℕ)) (found : Command) → command_of words ≡ Some found → IsRanged found
+unfolding command_of serial_form
+command_ranged words found is = if_found IsRanged (command_of words) found (by_words words) is
+  where
+    by_words : (words : List (List ℕ)) → IfSome (command_of words) IsRanged
+    by_words [] = tt
+    by_words (name ∷ []) = elim (bytes_eq name (codes "serial")) as (λ (named : Bool). IfSome (if named then Some command.Serial else None) IsRanged) [ true ↦ tt | false ↦ tt ]
+    by_words (name ∷ one ∷ []) = tt
+    by_words (name ∷ one ∷ two ∷ []) = tt
+    by_words (name ∷ one ∷ two ∷ three ∷ []) = generate_ranged name one two three
+    by_words (name ∷ one ∷ two ∷ three ∷ four ∷ more) = tt

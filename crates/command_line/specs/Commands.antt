@@ -1,0 +1,61 @@
+-- The commands, as the words after the program's name ask them.
+use Rattle.std.specs.Prelude.{ℕ, ◌≤◌, ◌||◌, nat_lt, List, [], ◌∷◌, Option, Some, None, if◌then◌else◌, codes}
+use Rattle.std.specs.Str.{bytes_eq}
+use Rattle.text_lines.specs.Numerals.{numeral_of}
+use Rattle.text_lines.specs.OptionSteps.{◌>>=◌}
+use Rattle.command_line.specs.declared.command.Command.{Command}
+use Rattle.command_line.specs.declared.command.Command.TheVariants as command
+
+-- the number from least to most that a numeral is
+unfoldable pub number_within : ℕ → ℕ → List ℕ → Option ℕ
+number_within least most word = do
+  number ← numeral_of word
+  if nat_lt number least || nat_lt most number then None else Some number
+
+-- the greatest seed, and the most clients and run lines, of a session that is made
+abbrev pub most_seed : ℕ
+most_seed = 2147483647
+
+abbrev pub most_clients : ℕ
+most_clients = 62
+
+abbrev pub most_lines : ℕ
+most_lines = 90000
+
+-- `serial`, alone
+unfoldable pub serial_form : List ℕ → Option Command
+serial_form name = if bytes_eq name (codes "serial") then Some command.Serial else None
+
+-- `generate SEED CLIENTS LINES`
+unfoldable pub generate_form : List ℕ → List ℕ → List ℕ → List ℕ → Option Command
+generate_form name seed clients lines =
+    if bytes_eq name (codes "generate") then (do
+      seed ← number_within 0 most_seed seed
+      clients ← number_within 1 most_clients clients
+      lines ← number_within 1 most_lines lines
+      Some (command.Generate seed clients lines)) else None
+
+-- the command that words are: one word or four, and every other list is none
+unfoldable pub command_of : List (List ℕ) → Option Command
+command_of (name ∷ []) = serial_form name
+command_of (name ∷ seed ∷ clients ∷ lines ∷ []) = generate_form name seed clients lines
+command_of _ = None
+
+-- numbers of which a session is made: a seed of 31 bits, 1 to 62 clients, 1 to 90,000 lines
+pub record IsWithin (seed clients lines : ℕ) : Type 0 where
+  pub seed_is : seed ≤ most_seed
+  pub some_client : 1 ≤ clients
+  pub few_clients : clients ≤ most_clients
+  pub some_line : 1 ≤ lines
+  pub few_lines : lines ≤ most_lines
+
+-- a command with its numbers in their ranges
+abbrev pub IsRanged : Command → Type 0
+IsRanged command.Serial = Unit {0}
+IsRanged (command.Generate seed clients lines) = IsWithin seed clients lines
+
+-- the command whose words stand in these places, the first of them alone or all four
+unfoldable pub command_by : Option (List ℕ) → Option (List ℕ) → Option (List ℕ) → Option (List ℕ) → Option Command
+command_by (Some name) None None None = serial_form name
+command_by (Some name) (Some seed) (Some clients) (Some lines) = generate_form name seed clients lines
+command_by _ _ _ _ = None

@@ -1,0 +1,11 @@
+pub mod PrintedLaws
+pub mod SameLaws
+pub mod VersionLaws
+pub mod FieldLaws
+pub mod PermLaws
+pub mod FormLaws
+pub mod StepLaws
+pub mod LeadLaws
+pub mod PolicyLaws
+pub mod AgainLaws
+pub mod SaidLaws

@@ -1,0 +1,5 @@
+pub mod WordLaws
+pub mod LineLaws
+pub mod NumeralLaws
+pub mod NameLaws
+pub mod LeadLaws

@@ -1,0 +1,41 @@
+//! Printing of lines of words, as the readers of texts read them again.
+//!
+//! A text is a list of lines and a line a list of words, so that whoever prints says which words, and one set of
+//! laws brings the words back.
+#![tactic(auto)]
+
+ghost use Rattle.std.specs.Prelude.{◌≡◌, ◌++◌, OnOk, decimal};
+ghost use Rattle.flask_sid.specs.Contexts.{context_text};
+ghost use Rattle.text_print.specs.Printed;
+
+use flask_sid::{Context, Memory, Piece};
+use text_lines::put_number;
+
+/// Puts a word behind a space.
+pub fn put_word(out: &mut Piece, word: &[u8]) -> Result<(), Memory>
+    ensures { OnOk result (out.new ≡ out.old ++ Printed.behind word.now) }
+{
+    out.push(b' ')?;
+    out.extend(word)
+}
+
+/// Puts a number behind a space, without leading zeros.
+pub fn put_numeral(out: &mut Piece, number: u64) -> Result<(), Memory>
+    ensures { OnOk result (out.new ≡ out.old ++ Printed.behind (decimal number)) }
+{
+    out.push(b' ')?;
+    put_number(out, number)
+}
+
+/// Puts a context behind a space.
+#[tactic(auto, unfolding(flask_sid::specs::Contexts::context_text))]
+pub fn put_context(out: &mut Piece, context: &Context) -> Result<(), Memory>
+    ensures { OnOk result (out.new ≡ out.old ++ Printed.behind (context_text context.now)) }
+{
+    out.push(b' ')?;
+    out.extend(context.user.as_bytes())?;
+    out.push(b':')?;
+    out.extend(context.role.as_bytes())?;
+    out.push(b':')?;
+    out.extend(context.kind.as_bytes())
+}
