@@ -1,5 +1,5 @@
 -- The numbers of a command are in their ranges.
-use Rattle.std.proofs.Common.{◌≡◌, ◌≤◌, ℕ, Bool, true, false, List, [], ◌∷◌, Option, None, Some, refl, arith}
+use Rattle.std.proofs.Common.{◌≡◌, ◌≤◌, ℕ, Bool, true, false, List, [], ◌∷◌, Option, None, Some, refl, sym, arith}
 use Rattle.std.specs.Prelude.{IfSome, ◌||◌, nat_lt, if◌then◌else◌, codes}
 use Rattle.std.specs.Str.{bytes_eq}
 use Rattle.std.proofs.lemmas.Bool.Decides.{nat_tests}
@@ -62,3 +62,8 @@ command_ranged words found is = if_found IsRanged (command_of words) found (by_w
     by_words (name ∷ one ∷ two ∷ []) = tt
     by_words (name ∷ one ∷ two ∷ three ∷ []) = generate_ranged name one two three
     by_words (name ∷ one ∷ two ∷ three ∷ four ∷ more) = tt
+
+-- the same of what was found, if anything
+pub found_ranged : (words : List (List ℕ)) (found : Option Command) → found ≡ command_of words → IfSome found IsRanged
+found_ranged words None is = tt
+found_ranged words (Some found) is = command_ranged words found (sym is)
