@@ -17,9 +17,9 @@ pub const MOST_LINES: u32 = 90_000;
 /// What the words of the command line ask.
 #[derive(Clone, Copy, Debug, PartialEq, Eq)]
 pub enum Command {
-    /// Runs the session of the standard input, one line after the other.
+    /// Runs the session of the source, one line after the other, and writes what it prints.
     Serial,
-    /// Writes a session made from a seed, with so many clients and run lines, each within its limits.
+    /// Makes a session from a seed, with so many clients and run lines, each within its limits, and writes its summary.
     Generate { seed: u32, clients: u8, lines: u32 },
 }
 

@@ -1,6 +1,6 @@
 -- Running the lines one after another.
-use Rattle.std.proofs.Common.{◌≡◌, ◌<◌, ◌≤◌, ◌+◌, ℕ, zero, suc, Bool, true, false, List, [], ◌∷◌, ◌++◌, length, map, All, Option, None, Some, Result, Ok, Err, refl, sym, ap, ◌∙◌, arith, IsTrue, append_assoc}
-use Rattle.std.specs.Prelude.{IfSome, OnOk, OnErr, unwrap_or, nat_lt, nat_le, ◌&&◌, ◌||◌, if◌then◌else◌}
+use Rattle.std.proofs.Common.{◌≡◌, ◌<◌, ◌≤◌, ◌+◌, ℕ, zero, suc, Bool, true, false, List, [], ◌∷◌, ◌++◌, length, map, All, Option, None, Some, Result, Ok, Err, refl, sym, ap, ◌∙◌, arith, IsTrue, append_assoc, append-nil}
+use Rattle.std.specs.Prelude.{◌^◌, OnOk, OnErr, IsErrAnd, nat_lt, nat_le, ◌&&◌, ◌||◌, if◌then◌else◌}
 use Rattle.std.proofs.lemmas.Bool.Decides.{nat_tests}
 use Rattle.std.proofs.lemmas.List.{length-append, length-map}
 use Rattle.std.proofs.lemmas.List.Elements.{All-map}
@@ -27,21 +27,25 @@ use Rattle.file_calls.specs.States.{FileState}
 use Rattle.file_calls.specs.declared.call.FileCall.{FileCall}
 use Rattle.file_calls.specs.declared.call.FileCall.TheVariants as call
 use Rattle.session_text.specs.Sessions.{IsSession, IsSidOf, IsDeclared, IsDeclaredProcess, IsRun}
-use Rattle.session_text.specs.declared.run_forms.Manager.TheVariants as manager
+use Rattle.session_text.proofs.SessionLemmas.{ports_known, nodes_known, clients_known, are_nodes, lines_run}
+use Rattle.session_forms.specs.declared.run_forms.Manager.TheVariants as manager
 use Rattle.session_text.specs.declared.session.ClientLine.{ClientLine}
 use Rattle.session_text.specs.declared.session.SessionParts.{SessionParts}
 use Rattle.session_text.specs.declared.session.Run.{Run}
 use Rattle.session_text.specs.declared.session.Run.TheVariants as run
 use Rattle.session_text.specs.declared.session.RunLine.{RunLine}
 use Rattle.session_desk.specs.Days.{Day, morning_of, refusal_of, day_notified, counted_change, is_complete, is_changing, file_ack, process_ack, port_ack}
-use Rattle.session_desk.specs.Desks.{Standing, AreOpenings, HasClients, IsInStep, IsSameOpening}
+use Rattle.session_desk.specs.Desks.{Standing, AreOpenings, HasClients, IsInStep, IsSameOpening, none_asked}
 use Rattle.session_desk.specs.declared.opening.Openings.{Openings}
-use Rattle.flaskd_run.specs.Serial.{day_after, line_text, lines_text, openings_of, text_on}
+use Rattle.flaskd_run.specs.Serial.{day_after, day_below, line_text, lines_text, morning, openings_of, summary_of, summary_on}
+use Rattle.flaskd_run.specs.Underway.{MayRun, IsLeft}
 use Rattle.policy_text.specs.declared.policy.PolicyParts.{PolicyParts}
 use Rattle.policy_versions.specs.Closure.{AreContexts, declared_contexts}
 use Rattle.policy_versions.specs.Judging.{decisions_of}
 use Rattle.flask_sid.specs.declared.context.ContextOf.{ContextOf}
 use Rattle.flaskd_run.specs.Writing.{IsOffered, AddsFront}
+use Rattle.flaskd_run.specs.declared.stop.RunStop.{RunStop}
+use Rattle.flaskd_run.specs.declared.stop.RunStop.TheVariants as run_stop
 use Rattle.flaskd_run.proofs.WritingLemmas.{written_more, front_of_part, adds_more}
 
 -- a line ran and was written
@@ -202,30 +206,18 @@ unfolding decisions_of
 declared_known policy contexts d are decides sid is =
     rw decides (sid_known policy.contexts (length contexts) sid (declared_few policy contexts are) is)
 
--- the root's identifier is that of a declared context
-root_declared : (contexts : List ContextLine) (root : Option ℕ) → 0 < length contexts → IfSome root (IsSidOf contexts) → IsSidOf contexts (unwrap_or root 1)
-root_declared contexts None some given = (omega arith, omega arith)
-root_declared contexts (Some sid) some given = given
-
 -- the clients' identifiers are known
-clients_known : (session : SessionParts) (d : Decisions) → IsSession session → ((sid : ℕ) → IsSidOf session.policy.contexts sid → IsTrue (d.known sid)) → All (λ sid. IsTrue (d.known sid)) (map (λ (client : ClientLine). client.sid) session.clients)
-clients_known session d is known =
-    All-map (λ sid. IsTrue (d.known sid)) (λ (client : ClientLine). client.sid) session.clients (λ k e within. known _ (is.clients k e within))
+clients_there : (session : SessionParts) (d : Decisions) → IsSession session → ((sid : ℕ) → IsSidOf session.policy.contexts sid → IsTrue (d.known sid)) → All (λ sid. IsTrue (d.known sid)) (map (λ (client : ClientLine). client.sid) session.clients)
+clients_there session d is known =
+    All-map (λ sid. IsTrue (d.known sid)) (λ (client : ClientLine). client.sid) session.clients (λ k e within. known _ (clients_known session is k e within))
 
-pub openings_known : (session : SessionParts) (d : Decisions) → IsSession session → 0 < length session.policy.contexts → ((sid : ℕ) → IsSidOf session.policy.contexts sid → IsTrue (d.known sid)) → AreOpenings d (openings_of session)
-openings_known session d is some known = record {
-  files = (
-    clients_known session d is known,
-    known _ (root_declared session.policy.contexts session.root some is.root),
-    λ k e within. known _ (is.nodes k e within),
-  );
-  nodes = is.tree;
-  processes = clients_known session d is known;
-  ports = (
-    clients_known session d is known,
-    known _ (root_declared session.policy.contexts session.port some is.port),
-    λ k e within. known _ (is.ports k e within),
-  );
+-- what a session opens the managers with is known
+pub openings_known : (session : SessionParts) (d : Decisions) → IsSession session → ((sid : ℕ) → IsSidOf session.policy.contexts sid → IsTrue (d.known sid)) → AreOpenings d (openings_of session)
+openings_known session d is known = record {
+  files = (clients_there session d is known, known _ is.root, λ k e within. known _ (nodes_known session is k e within));
+  nodes = are_nodes session is;
+  processes = clients_there session d is known;
+  ports = (clients_there session d is known, known _ is.port, λ k e within. known _ (ports_known session is k e within));
 }
 
 -- what is declared is known
@@ -285,11 +277,77 @@ last_failed before now later whole part offered added = (
   adds_more before now later offered.0 added.0 offered.2 added.3,
 )
 
--- what the lines print from a desk that was set up with openings
-pub run_text : {Decider : Type 0} (decides : Decider → Decisions) (decider : Decider) (openings : Openings) (desk : Standing Decider) (contexts : List (ContextOf (List ℕ))) (clients : List ClientLine) (items : List RunLine) → desk ≡ record { day = morning_of openings; decider = decider } → lines_text contexts (decides desk.decider) clients desk.day items ≡ lines_text contexts (decides decider) clients (morning_of openings) items
-run_text decides decider openings desk contexts clients items is = ap (λ (at : Standing _). lines_text contexts (decides at.decider) clients at.day items) is
+-- the managers of a session's openings have its clients
+opened_clients : (session : SessionParts) → HasClients (length session.clients) (morning session)
+opened_clients session =
+    let same : length (map (λ (client : ClientLine). client.sid) session.clients) ≡ length session.clients = length-map session.clients (λ (client : ClientLine). client.sid) in
+    record { files = same; processes = same; ports = same }
 
--- what the lines of a session print, from what it was opened with
-pub run_is : (session : SessionParts) (openings : Openings) (contexts : List (ContextOf (List ℕ))) (d : Decisions) (clients : List ClientLine) (items : List RunLine) → openings ≡ openings_of session → clients ≡ session.clients → items ≡ session.lines → lines_text contexts d clients (morning_of openings) items ≡ text_on contexts d session
-unfolding text_on
-run_is session openings contexts d clients items openings_is clients_is items_is = rw (clients_is, items_is, openings_is) refl
+-- the lines of a session may run from its morning on; they are fewer than a text has bytes
+pub session_may : (session : SessionParts) (d : Decisions) → IsSession session → length session.lines < 2 ^ 64 → ((sid : ℕ) → IsSidOf session.policy.contexts sid → IsTrue (d.known sid))
+    → MayRun d (length session.clients) (morning session) session.lines
+session_may session d is few known = record {
+  formed = runs_known (IsSidOf session.policy.contexts) (λ sid. IsTrue (d.known sid)) (length session.clients) session.lines known (lines_run session is);
+  clients_are = opened_clients session;
+  in_step = record { processes = refl; ports = refl };
+  calls = omega (arith, few);
+  changes = omega (arith, few);
+}
+
+-- at first all lines are left
+pub all_left : (d : Decisions) (clients : ℕ) (day : Day) (lines : List RunLine) → MayRun d clients day lines → IsLeft d clients day day lines lines
+all_left d clients day lines may = record { may = may; leads = refl }
+
+-- one line ran, and the rest is left
+pub left_more : (d d' : Decisions) (clients : ℕ) (start day day' : Day) (all items rest : List RunLine) (line : RunLine) → IsLeft d clients start day all items → items ≡ line ∷ rest → d' ≡ d
+    → day' ≡ day_after d' day line.run → IsSameOpening day day' → IsLeft d clients start day' all rest
+left_more d d' clients start day day' all items rest line left is same day_is opening =
+    let after : day' ≡ day_after d day line.run = rw same at day_is in
+    let count : length items ≡ length rest + 1 = ap length is ∙ omega arith in
+    record {
+      may = record {
+        formed = all_behind (λ (line : RunLine). IsRun (λ sid. IsTrue (d.known sid)) clients line.run) items rest line is left.may.formed;
+        clients_are = clients_after clients day day' left.may.clients_are opening;
+        in_step = rw (← after) at (in_step_after d day line.run left.may.in_step);
+        calls = omega (arith, left.may.calls, count, rw (← after) at (calls_after d day line.run));
+        changes = omega (arith, left.may.changes, count, rw (← after) at (changes_after d day line.run));
+      };
+      leads = rw after (rw is at left.leads);
+    }
+
+-- no line is left
+pub none_left : (d : Decisions) (clients : ℕ) (start day : Day) (all items : List RunLine) → IsLeft d clients start day all items → length items ≡ 0 → day ≡ day_below d start all
+none_left d clients start day all items left none = rw (no_items items none) at left.leads
+
+-- all was offered, so all was added
+pub offered_all : (before now : Option (List ℕ)) (whole : List ℕ) → IsOffered before now whole [] → Adds before now whole
+offered_all before now whole offered = rw (offered.1 ∙ append-nil offered.0) offered.2
+
+-- the counts have room for one more
+pub room_for_one : (d : Decisions) (clients : ℕ) (day : Day) (items rest : List RunLine) (line : RunLine) → MayRun d clients day items → items ≡ line ∷ rest → (day.calls + 1 < 2 ^ 64) × (day.changes + 1 < 2 ^ 64)
+room_for_one d clients day items rest line may is =
+    let count : length items ≡ length rest + 1 = ap length is ∙ omega arith in
+    (omega (arith, may.calls, count), omega (arith, may.changes, count))
+
+-- the managers are opened by a session, and its lines may run
+pub opened_may : {Decider : Type 0} (decides : Decider → Decisions) (decider : Decider) (session : SessionParts) (openings : Openings) (desk : Standing Decider) (count : ℕ) (items : List RunLine)
+    → openings ≡ openings_of session → desk ≡ record { day = morning_of openings; decider = decider; asked = none_asked } → count ≡ length session.clients → items ≡ session.lines
+    → IsSession session → length items < 2 ^ 64 → ((sid : ℕ) → IsSidOf session.policy.contexts sid → IsTrue ((decides decider).known sid)) → MayRun (decides desk.decider) count desk.day items
+opened_may decides decider session openings desk count items openings_is desk_is count_is items_is is few known =
+    let lines_few : length session.lines < 2 ^ 64 = rw items_is at few in
+    rw (desk_is, openings_is, count_is, items_is) (session_may session (decides decider) is lines_few known)
+
+-- the summary of lines that ran from a session's morning on
+pub summary_is : {Decider : Type 0} (decides : Decider → Decisions) (decider : Decider) (session : SessionParts) (openings : Openings) (desk : Standing Decider) (day : Day) (items : List RunLine)
+    → openings ≡ openings_of session → desk ≡ record { day = morning_of openings; decider = decider; asked = none_asked } → items ≡ session.lines
+    → day ≡ day_below (decides desk.decider) desk.day items → summary_of day ≡ summary_on (decides decider) session
+unfolding summary_on
+summary_is decides decider session openings desk day items openings_is desk_is items_is day_is = rw (day_is, desk_is, openings_is, items_is) refl
+
+-- want of memory is no fault of the sink
+pub no_write_fault : {X : Type 0} (result : Result X RunStop) → IsErrAnd result (λ stop. stop ≡ run_stop.Memory) → result ≡ Err run_stop.WriteFault → ⊥
+no_write_fault (Ok x) memory is = cc
+no_write_fault (Err stop) memory is =
+    let fault : stop ≡ run_stop.WriteFault = cc in
+    let same : run_stop.Memory ≡ run_stop.WriteFault = sym memory ∙ fault in
+    cc

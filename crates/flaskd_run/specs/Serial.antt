@@ -1,30 +1,36 @@
 -- What `serial` prints: the lines in the text's order, run on the plain managers.
-use Rattle.std.specs.Prelude.{ℕ, ◌+◌, List, [], ◌∷◌, ◌++◌, length, drop, slice_get, map, Option, Some, None, unwrap_or, codes}
+use Rattle.std.specs.Prelude.{ℕ, ◌+◌, Bool, true, false, List, [], ◌∷◌, ◌++◌, length, drop, slice_get, map, Option, Some, None, codes}
+use Rattle.std.specs.List.{flat_map}
 use Rattle.flask_sid.specs.declared.context.ContextOf.{ContextOf}
 use Rattle.access_vectors.specs.Decisions.{Decisions}
 use Rattle.access_vectors.specs.Phases.{number_of}
+use Rattle.access_vectors.specs.declared.asked.Asked.{Asked}
+use Rattle.audit_log.specs.Audited.{lines_asked}
+use Rattle.audit_log.specs.Logs.{lines_by}
+use Rattle.audit_log.specs.Texts.{line_text as audit_line_text}
+use Rattle.audit_log.specs.declared.audited.AuditLine.{AuditLine}
+use Rattle.flaskd_run.specs.declared.lines.Caller.{Caller}
+use Rattle.policy_text.specs.declared.policy.PolicyParts.{PolicyParts}
 use Rattle.managed.specs.Posts.{acting_number}
-use Rattle.policy_versions.specs.Judging.{decisions_of}
 use Rattle.session_text.specs.declared.session.ClientLine.{ClientLine}
 use Rattle.session_text.specs.declared.session.Run.{Run}
 use Rattle.session_text.specs.declared.session.Run.TheVariants as run
 use Rattle.session_text.specs.declared.session.RunLine.{RunLine}
 use Rattle.session_text.specs.declared.session.SessionParts.{SessionParts}
-use Rattle.session_text.specs.declared.run_forms.Manager.{Manager}
-use Rattle.session_text.specs.declared.run_forms.Manager.TheVariants as manager
+use Rattle.session_forms.specs.declared.run_forms.Manager.{Manager}
+use Rattle.session_forms.specs.declared.run_forms.Manager.TheVariants as manager
 use Rattle.session_desk.specs.Days.{Day, morning_of, file_answer, process_answer, port_answer, file_called, process_called, port_called, file_begun, process_begun, port_begun, file_ended, process_ended, port_ended, is_changing, refusal_of, day_notified, stale_files, stale_processes, stale_ports, day_updated, file_ack, process_ack, port_ack, day_acknowledged}
 use Rattle.session_desk.specs.declared.opening.Openings.{Openings}
 use Rattle.session_desk.specs.declared.changes.Acks.{Acks}
 use Rattle.session_desk.specs.declared.changes.Left.{Left}
 use Rattle.flaskd_run.specs.Texts.{reply_text, process_reply_text, port_reply_text, client_text, admin_text, notice_text, updated_text, ack_text, summary_text}
 
--- what the managers are opened with: a client acts as its context; the root, and ports without a line, have the context that
--- is given them, or else the first one
+-- what the managers are opened with: a client acts as its context, and the root and ports without a line have theirs
 abbrev pub openings_of : SessionParts → Openings
 openings_of session = record {
-  files = record { clients = map (λ client. client.sid) session.clients; root = unwrap_or session.root 1; nodes = session.nodes };
+  files = record { clients = map (λ client. client.sid) session.clients; root = session.root; nodes = session.nodes };
   processes = record { clients = map (λ client. client.sid) session.clients };
-  ports = record { clients = map (λ client. client.sid) session.clients; initial = unwrap_or session.port 1; ports = session.ports };
+  ports = record { clients = map (λ client. client.sid) session.clients; initial = session.port; ports = session.ports };
 }
 
 -- before the first line of a session
@@ -99,16 +105,66 @@ line_text contexts d clients day n (run.Notify version) = admin_text n (notice_t
 line_text contexts d clients day n (run.Update most) = admin_text n (updated_text (left_on d day most))
 line_text contexts d clients day n run.Ack = admin_text n (ack_text (acks_on d day))
 
--- what lines print from there on, and the summary
+-- what lines print, from there on
 abbrev pub lines_text : List (ContextOf (List ℕ)) → Decisions → List ClientLine → Day → List RunLine → List ℕ
-lines_text contexts d clients day [] = summary_text day.calls day.denied day.changes
+lines_text contexts d clients day [] = []
 lines_text contexts d clients day (line ∷ lines) =
     line_text contexts d clients day line.line line.run ++ lines_text contexts d clients (day_after d day line.run) lines
 
+-- after lines
+abbrev pub day_below : Decisions → Day → List RunLine → Day
+day_below d day [] = day
+day_below d day (line ∷ lines) = day_below d (day_after d day line.run) lines
+
+-- what the call of a line asks; the other lines ask nothing
+abbrev pub asked_by : Decisions → Day → Run → List Asked
+asked_by d day (run.File client call) = (file_answer d day client call).asked
+asked_by d day (run.Process client call) = (process_answer d day client call).asked
+asked_by d day (run.Port client call) = (port_answer d day client call).asked
+asked_by d day asks = []
+
+-- who acts in the call of line n, and on which manager; the other lines are no call
+abbrev pub caller_of : Day → ℕ → Run → Option Caller
+caller_of day n (run.File client call) = Some (record { acting = record { client = client; mark = n; number = acting_number day.files client }; manager = manager.File })
+caller_of day n (run.Process client call) = Some (record { acting = record { client = client; mark = n; number = acting_number day.processes client }; manager = manager.Process })
+caller_of day n (run.Port client call) = Some (record { acting = record { client = client; mark = n; number = acting_number day.ports client }; manager = manager.Port })
+caller_of day n asks = None
+
+-- the audit lines of what a caller asked: they are the caller's, whoever was judged
+abbrev pub caller_audit : PolicyParts → List (ContextOf (List ℕ)) → Option Caller → List Asked → List AuditLine
+caller_audit policy contexts None asked = []
+caller_audit policy contexts (Some caller) asked = lines_asked policy contexts caller.acting asked
+
+-- the audit lines of line n, where they are printed
+abbrev pub line_audit : Bool → PolicyParts → List (ContextOf (List ℕ)) → Decisions → Day → ℕ → Run → List AuditLine
+line_audit false policy contexts d day n asks = []
+line_audit true policy contexts d day n asks = caller_audit policy contexts (caller_of day n asks) (asked_by d day asks)
+
+-- the audit lines of lines in the text's order, from there on
+abbrev pub lines_audit : Bool → PolicyParts → List (ContextOf (List ℕ)) → Decisions → Day → List RunLine → List AuditLine
+lines_audit audited policy contexts d day [] = []
+lines_audit audited policy contexts d day (line ∷ lines) =
+    line_audit audited policy contexts d day line.line line.run ++ lines_audit audited policy contexts d (day_after d day line.run) lines
+
+-- what is printed of audit lines for clients from number n on: for each, in their order, those that are its own
+abbrev pub audit_text : List (ContextOf (List ℕ)) → List AuditLine → ℕ → List ClientLine → List ℕ
+audit_text contexts lines n [] = []
+audit_text contexts lines n (client ∷ clients) = flat_map (audit_line_text contexts client.name) (lines_by n lines) ++ audit_text contexts lines (n + 1) clients
+
+-- the summary of a run that ended so
+abbrev pub summary_of : Day → List ℕ
+summary_of day = summary_text day.calls day.denied day.changes
+
+-- what a run prints from a day on: its lines' answers, its audit lines where they are printed, and the summary
+abbrev pub run_text : Bool → PolicyParts → List (ContextOf (List ℕ)) → Decisions → List ClientLine → Day → List RunLine → List ℕ
+run_text audited policy contexts d clients day lines =
+    lines_text contexts d clients day lines
+    ++ (audit_text contexts (lines_audit audited policy contexts d day lines) 0 clients ++ summary_of (day_below d day lines))
+
 -- what a session prints under these decisions on these contexts
 unfoldable pub text_on : List (ContextOf (List ℕ)) → Decisions → SessionParts → List ℕ
-text_on contexts d session = lines_text contexts d session.clients (morning session) session.lines
+text_on contexts d session = run_text session.audit session.policy contexts d session.clients (morning session) session.lines
 
--- what a session prints, where its policy decides on these contexts
-abbrev pub serial_text : List (ContextOf (List ℕ)) → SessionParts → List ℕ
-serial_text contexts session = text_on contexts (decisions_of session.policy contexts) session
+-- the summary of a session alone, under these decisions
+unfoldable pub summary_on : Decisions → SessionParts → List ℕ
+summary_on d session = summary_of (day_below d (morning session) session.lines)

@@ -13,8 +13,8 @@ use Rattle.process_calls.specs.declared.call.ProcessReply.{ProcessReply}
 use Rattle.process_calls.specs.declared.call.ProcessReply.TheVariants as process
 use Rattle.port_calls.specs.declared.call.PortReply.{PortReply}
 use Rattle.port_calls.specs.declared.call.PortReply.TheVariants as port
-use Rattle.session_text.specs.declared.run_forms.Manager.{Manager}
-use Rattle.session_text.specs.declared.run_forms.Manager.TheVariants as manager
+use Rattle.session_forms.specs.declared.run_forms.Manager.{Manager}
+use Rattle.session_forms.specs.declared.run_forms.Manager.TheVariants as manager
 use Rattle.session_desk.specs.Days.{is_complete}
 use Rattle.session_desk.specs.declared.changes.Acks.{Acks}
 use Rattle.session_desk.specs.declared.changes.Left.{Left}

@@ -1,11 +1,14 @@
 //! The program: reads a session, runs its lines on the managers, and prints what they answer.
 #![tactic(auto)]
 
+mod auditing;
 mod lines;
 mod reading;
+mod running;
 mod said;
 mod serial;
 mod status;
+mod stop;
 mod stops;
 mod texts;
 mod top;

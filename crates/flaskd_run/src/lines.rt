@@ -7,20 +7,24 @@ ghost use Rattle.port_calls.specs.Plain as port;
 ghost use Rattle.session_desk.specs.Desks.{HasClients, IsInStep, IsSameOpening};
 ghost use Rattle.session_text.specs.Sessions.{IsRun};
 ghost use Rattle.session_text.specs.declared.session.Run.{Run};
+ghost use Rattle.flaskd_run.specs.Lines;
+ghost use Rattle.flaskd_run.specs.Lines.{IsRunnable};
 ghost use Rattle.flaskd_run.specs.Serial;
 
 use crate::texts::{
     put_acks, put_admin, put_client, put_notice, put_port_reply, put_process_reply, put_reply,
     put_updated,
 };
-use access_vectors::Decider;
+use access_vectors::{Asked, Decider};
+use audit_log::Acting;
 use file_calls::FileCall;
 use flask_sid::{Memory, Piece, SidTable};
 use manager_history::NotifyFault;
 use port_calls::PortCall;
 use process_calls::ProcessCall;
 use session_desk::Desk;
-use session_text::{ClientLine, Manager, Run, RunLine};
+use session_forms::Manager;
+use session_text::{ClientLine, Run, RunLine};
 use std::alloc::Global;
 
 /// A client's line: its number in the text, and the client.
@@ -30,8 +34,45 @@ struct Place {
     client: u8,
 }
 
+/// Who acts in a client's call, and on which manager.
+#[derive(Clone, Copy, Debug)]
+pub struct Caller {
+    pub acting: Acting,
+    pub manager: Manager,
+}
+
+/// Who acts in a line, where it is a client's call.
+pub fn caller_of<D: Decider>(desk: &Desk<'_, D>, line: &RunLine) -> Option<Caller>
+    requires { IsRunnable line.now.run }
+    ensures { result ≡ Serial.caller_of desk.now.day line.now.line line.now.run }
+{
+    let (client, manager) = match &line.run {
+        Run::File { client, call: _ } => (*client, Manager::File),
+        Run::Process { client, call: _ } => (*client, Manager::Process),
+        Run::Port { client, call: _ } => (*client, Manager::Port),
+        _ => return None,
+    };
+    let acting = Acting {
+        client,
+        mark: line.line,
+        number: acting_on(desk, client, manager),
+    };
+    Some(Caller { acting, manager })
+}
+
+/// What the newest call of a manager asked.
+pub fn asked_of<'a, D: Decider>(desk: &'a Desk<'_, D>, manager: Manager) -> &'a [Asked]
+    ensures { result.now ≡ Lines.asked_of desk.now.asked manager }
+{
+    match manager {
+        Manager::File => desk.asked_of_files(),
+        Manager::Process => desk.asked_of_processes(),
+        Manager::Port => desk.asked_of_ports(),
+    }
+}
+
 /// The name of a client.
-fn name_of(clients: &[ClientLine], client: u8) -> &[u8]
+pub fn name_of(clients: &[ClientLine], client: u8) -> &[u8]
     ensures { result.now ≡ Serial.name_of clients.now client }
 {
     match clients.get(usize::from(client)) {
@@ -57,6 +98,7 @@ fn file_line<D: Decider>(
     requires countable { desk.old.day.calls + 1 < 2 ^ 64 }
     ensures text { OnOk result (out.new ≡ Serial.line_text contexts.now (D.decides desk.old.decider) clients.now desk.old.day at.line (Run.File at.client call)) }
     ensures day { OnOk result (desk.new.day ≡ Serial.day_after (D.decides desk.old.decider) desk.old.day (Run.File at.client call)) }
+    ensures asked { OnOk result (desk.new.asked.files ≡ Serial.asked_by (D.decides desk.old.decider) desk.old.day (Run.File at.client call)) }
     ensures opening { IsSameOpening desk.old.day desk.new.day }
     ensures decider { desk.new.decider ≡ desk.old.decider }
 {
@@ -89,6 +131,7 @@ fn process_line<D: Decider>(
     requires countable { desk.old.day.calls + 1 < 2 ^ 64 }
     ensures text { OnOk result (out.new ≡ Serial.line_text contexts.now (D.decides desk.old.decider) clients.now desk.old.day at.line (Run.Process at.client call)) }
     ensures day { OnOk result (desk.new.day ≡ Serial.day_after (D.decides desk.old.decider) desk.old.day (Run.Process at.client call)) }
+    ensures asked { OnOk result (desk.new.asked.processes ≡ Serial.asked_by (D.decides desk.old.decider) desk.old.day (Run.Process at.client call)) }
     ensures opening { IsSameOpening desk.old.day desk.new.day }
     ensures decider { desk.new.decider ≡ desk.old.decider }
 {
@@ -121,6 +164,7 @@ fn port_line<D: Decider>(
     requires countable { desk.old.day.calls + 1 < 2 ^ 64 }
     ensures text { OnOk result (out.new ≡ Serial.line_text contexts.now (D.decides desk.old.decider) clients.now desk.old.day at.line (Run.Port at.client call)) }
     ensures day { OnOk result (desk.new.day ≡ Serial.day_after (D.decides desk.old.decider) desk.old.day (Run.Port at.client call)) }
+    ensures asked { OnOk result (desk.new.asked.ports ≡ Serial.asked_by (D.decides desk.old.decider) desk.old.day (Run.Port at.client call)) }
     ensures opening { IsSameOpening desk.old.day desk.new.day }
     ensures decider { desk.new.decider ≡ desk.old.decider }
 {
@@ -304,6 +348,7 @@ pub fn run_line<D: Decider>(
     requires changes { desk.old.day.changes + 1 < 2 ^ 64 }
     ensures text { OnOk result (out.new ≡ Serial.line_text contexts.now (D.decides desk.old.decider) clients.now desk.old.day line.line line.run) }
     ensures day { OnOk result (desk.new.day ≡ Serial.day_after (D.decides desk.old.decider) desk.old.day line.run) }
+    ensures asked { OnOk result (Lines.asked_in desk.new.asked line.run ≡ Serial.asked_by (D.decides desk.old.decider) desk.old.day line.run) }
     ensures opening { IsSameOpening desk.old.day desk.new.day }
     ensures decider { desk.new.decider ≡ desk.old.decider }
 {
@@ -331,4 +376,49 @@ pub fn run_line<D: Decider>(
         Run::Update { k } => update_line(desk, clients, line, k, out),
         Run::Ack => ack_line(desk, clients, line, out),
     }
+}
+
+/// Does what a line asks, and puts nothing.
+pub fn act<D: Decider>(
+    alloc: Global,
+    desk: &mut Desk<'_, D>,
+    clients: usize,
+    line: RunLine,
+) -> Result<(), Memory>
+    requires formed { IsRun (λ sid. IsTrue ((D.decides desk.old.decider).known sid)) clients line.run }
+    requires few { clients ≤ 62 }
+    requires clients { HasClients clients desk.old.day }
+    requires in_step { IsInStep desk.old.day }
+    requires calls { desk.old.day.calls + 1 < 2 ^ 64 }
+    requires changes { desk.old.day.changes + 1 < 2 ^ 64 }
+    ensures day { OnOk result (desk.new.day ≡ Serial.day_after (D.decides desk.old.decider) desk.old.day line.run) }
+    ensures opening { IsSameOpening desk.old.day desk.new.day }
+    ensures decider { desk.new.decider ≡ desk.old.decider }
+{
+    let RunLine { line, run } = line;
+    match run {
+        Run::File { client, call } => {
+            let _acted = desk.call_file(alloc, line, client, call)?;
+        }
+        Run::Process { client, call } => {
+            let _acted = desk.call_process(alloc, line, client, call)?;
+        }
+        Run::Port { client, call } => {
+            let _acted = desk.call_port(alloc, line, client, call)?;
+        }
+        Run::Begin { client, manager } => begin(desk, client, manager),
+        Run::End { client, manager } => end(desk, client, manager),
+        Run::Notify { ver } => {
+            if let Err(NotifyFault::Memory) = desk.notify(alloc, ver) {
+                return Err(Memory);
+            }
+        }
+        Run::Update { k } => {
+            let _left = desk.update(k);
+        }
+        Run::Ack => {
+            let _acks = desk.acknowledge();
+        }
+    }
+    Ok(())
 }

@@ -8,7 +8,10 @@ use text_lines::FaultKind;
 pub fn status_text(alloc: Global, status: &Status) -> Result<String, AllocError> {
     match status {
         Status::Ok => String::from_str(alloc, "ok"),
-        Status::Usage => String::from_str(alloc, "usage: flaskd serial"),
+        Status::Usage => String::from_str(
+            alloc,
+            "usage: flaskd serial | generate SEED CLIENTS LINES",
+        ),
         Status::BadText { line, kind } => {
             let kind = kind_text(*kind);
             format!(in alloc; "line {line}: {kind}")
@@ -47,6 +50,5 @@ fn kind_text(kind: FaultKind) -> &'static str {
         FaultKind::Undeclared => "undeclared",
         FaultKind::Twice => "twice",
         FaultKind::Ended => "ended",
-        FaultKind::Unbuilt => "unbuilt",
     }
 }

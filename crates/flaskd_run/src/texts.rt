@@ -11,7 +11,7 @@ use manager_history::{Ack, NotifyFault};
 use port_calls::PortReply;
 use process_calls::ProcessReply;
 use session_desk::{Acks, Left};
-use session_text::Manager;
+use session_forms::Manager;
 use text_lines::put_number;
 
 /// Puts a reply of the file manager, whose labels are identifiers of these contexts.

@@ -1,3 +1,4 @@
 pub mod NamedLemmas
 pub mod PhaseLemmas
 pub mod SeenLemmas
+pub mod AskedLemmas

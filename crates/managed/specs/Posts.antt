@@ -1,10 +1,11 @@
 -- How a manager on one thread stands: plain state, slots, change of policy and held passes.
-use Rattle.std.specs.Prelude.{ℕ, ◌+◌, Bool, true, false, List, [], ◌∷◌, take, replicate, slice_set, Option, Some, None, unwrap_or}
+use Rattle.std.specs.Prelude.{ℕ, ◌+◌, ◌-◌, Bool, true, false, List, [], ◌∷◌, length, take, replicate, slice_get, slice_set, Option, Some, None, unwrap_or}
 use Rattle.std.specs.FinMap as maps
 use Rattle.access_vectors.specs.Decisions.{Decisions}
 use Rattle.access_vectors.specs.Asking.{counted}
 use Rattle.access_vectors.specs.Phases.{number_of, version_at, noticed, acknowledged, MayName}
 use Rattle.access_vectors.specs.Stale.{Follows, Pair, stale_slots, now_following, all_following}
+use Rattle.access_vectors.specs.declared.asked.Asked.{Asked}
 use Rattle.access_vectors.specs.declared.class.Class.{Class}
 use Rattle.access_vectors.specs.declared.phase.Phase.{Phase}
 use Rattle.access_vectors.specs.declared.phase.Phase.TheVariants.{Settled, Pending}
@@ -12,7 +13,7 @@ use Rattle.manager_history.specs.Answers.{Answer, Manager}
 use Rattle.manager_history.specs.Kept.{Kept}
 use Rattle.manager_history.specs.Passing.{pass_of, older_count}
 use Rattle.manager_history.specs.declared.entry.Entry.{Entry}
-use Rattle.manager_history.specs.declared.entry.Entry.TheVariants.{Ack}
+use Rattle.manager_history.specs.declared.entry.Entry.TheVariants.{Op, Notice, Ack}
 use Rattle.managed.specs.declared.managed.Shown.{Shown}
 
 -- where a manager stands: the plain manager's state, the policy number that each used slot follows, where its change of
@@ -50,6 +51,17 @@ called followed d post client call answer = record {
   phase = post.phase;
   held = post.held;
 }
+
+-- what a call asked; other entries ask nothing
+abbrev pub asked_in : {Call Reply : Type 0} → Option (Entry Call Reply) → List Asked
+asked_in None = []
+asked_in (Some (Op caller mark call number asked reply)) = asked
+asked_in (Some (Notice number version)) = []
+asked_in (Some (Ack number)) = []
+
+-- what the newest entry of a history asked
+unfoldable pub last_asked : {Call Reply : Type 0} → List (Entry Call Reply) → List Asked
+last_asked history = asked_in (slice_get history (length history - 1))
 
 -- the same with other held passes
 abbrev pub with_held : {State : Type 0} → Post State → List (Option ℕ) → Post State

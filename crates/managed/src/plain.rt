@@ -6,7 +6,7 @@ ghost use Rattle.manager_history.specs.Kept.{notice_fault, IsRefusal, ack_answer
 ghost use Rattle.managed.specs.Posts;
 
 use crate::managed::Shown;
-use access_vectors::{Decider, Phase, Plainly, Steps};
+use access_vectors::{Asked, Decider, Phase, Plainly, Steps};
 use flask_sid::Memory;
 use manager_history::{Ack, Core, Entry, Keeper, NotifyFault, Passes};
 use std::alloc::Global;
@@ -109,6 +109,17 @@ impl<'d, C: Core, D: Decider> Plain<'d, C, D> {
         let mut asker = Plainly::new(self.decider, version);
         self.keeper
             .call(alloc, client, mark, call, number, &mut asker)
+    }
+
+    /// What the newest entry of the history asked, which is nothing where it is no call.
+    #[tactic(auto, unfolding(crate::specs::Posts::last_asked))]
+    pub fn last_asked(&self) -> &[Asked]
+        ensures { result.now ≡ Posts.last_asked self.now.keeper.history }
+    {
+        match self.keeper.entries().last() {
+            Some(Entry::Op { asked, .. }) => asked.as_slice(),
+            _ => &[],
+        }
     }
 
     /// Where the change of policy stands.

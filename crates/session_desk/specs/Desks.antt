@@ -1,5 +1,5 @@
 -- What the desk of a run keeps.
-use Rattle.std.specs.Prelude.{◌≡◌, ℕ, List, length, Option, Some, None, Result, Ok, Err, refl}
+use Rattle.std.specs.Prelude.{◌≡◌, ℕ, List, [], length, Option, Some, None, Result, Ok, Err, refl}
 use Rattle.std.specs.Coded.{Coded, code_by, coded×, coded_list, coded_option, coded_ℕ}
 use Rattle.std.specs.Ordering.{nat_cmp}
 use Rattle.std.specs.FinMap as maps
@@ -7,7 +7,9 @@ use Rattle.std.specs.FinMap.{FinMap}
 use Rattle.access_vectors.specs.Decisions.{Decisions}
 use Rattle.access_vectors.specs.Phases.{number_of}
 use Rattle.access_vectors.specs.Stale.{Follows}
+use Rattle.access_vectors.specs.contracts.asked.Asked as asked_type
 use Rattle.access_vectors.specs.contracts.phase.Phase as phase_type
+use Rattle.access_vectors.specs.declared.asked.Asked.{Asked}
 use Rattle.access_vectors.specs.declared.phase.Phase.{Phase}
 use Rattle.manager_history.specs.declared.answers.NotifyFault.{NotifyFault}
 use Rattle.manager_history.specs.declared.answers.NotifyFault.TheVariants as faults
@@ -33,10 +35,21 @@ use Rattle.port_calls.specs.declared.opening.PortOpening.{PortOpening}
 use Rattle.session_desk.specs.Days.{Day}
 use Rattle.session_desk.specs.declared.opening.Openings.{Openings}
 
--- what contracts see of a desk: where the run stands, and what decides
+-- what the newest call of each manager asked
+pub record LastAsked : Type 0 where
+  pub files : List Asked
+  pub processes : List Asked
+  pub ports : List Asked
+
+-- before the first call
+abbrev pub none_asked : LastAsked
+none_asked = record { files = []; processes = []; ports = [] }
+
+-- what contracts see of a desk: where the run stands, what decides, and what the newest calls asked
 pub record Standing (Decider : Type 0) : Type 0 where
   pub day : Day
   pub decider : Decider
+  pub asked : LastAsked
 
 -- how a proof tells two of them apart: by the fields
 abbrev pub file_held_code : Coded file_states.Held
@@ -90,9 +103,20 @@ day_code =
     (λ p. record { files = p.0; processes = p.1.0; ports = p.1.1.0; calls = p.1.1.1.0; denied = p.1.1.1.1.0; changes = p.1.1.1.1.1 })
     (λ _. refl)
 
+abbrev pub asked_code : Coded LastAsked
+asked_code =
+    code_by (List Asked × (List Asked × List Asked))
+    (coded× (coded_list asked_type.the_row.coded) (coded× (coded_list asked_type.the_row.coded) (coded_list asked_type.the_row.coded)))
+    (λ asked. (asked.files, (asked.processes, asked.ports)))
+    (λ p. record { files = p.0; processes = p.1.0; ports = p.1.1 })
+    (λ _. refl)
+
 abbrev pub standing_code : {Decider : Type 0} → Coded Decider → Coded (Standing Decider)
 standing_code {Decider = Decider} code =
-    code_by (Day × Decider) (coded× day_code code) (λ standing. (standing.day, standing.decider)) (λ p. record { day = p.0; decider = p.1 }) (λ _. refl)
+    code_by (Day × (Decider × LastAsked)) (coded× day_code (coded× code asked_code))
+    (λ standing. (standing.day, (standing.decider, standing.asked)))
+    (λ p. record { day = p.0; decider = p.1.0; asked = p.1.1 })
+    (λ _. refl)
 
 -- the identifiers of what the managers are opened with are the decider's, and the files' nodes are those of a tree
 pub record AreOpenings (d : Decisions) (openings : Openings) : Type 0 where

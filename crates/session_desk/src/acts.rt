@@ -18,6 +18,7 @@ use std::alloc::Global;
 
 impl<'d, D: Decider> Desk<'d, D> {
     /// Does a client's call of the manager of files, under its held pass or else a pass of the newest number.
+    #[tactic(auto, using(managed::proofs::AskedLemmas::asked_last))]
     pub fn call_file(
         &mut self,
         alloc: Global,
@@ -30,6 +31,7 @@ impl<'d, D: Decider> Desk<'d, D> {
         requires countable { self.old.day.calls + 1 < 2 ^ 64 }
         ensures reply { IfOk result (λ acted. acted.reply ≡ (Days.file_answer (D.decides self.old.decider) self.old.day client call).reply) }
         ensures number { IfOk result (λ acted. acted.number ≡ Posts.acting_number self.old.day.files client) }
+        ensures asked { OnOk result (self.new.asked.files ≡ (Days.file_answer (D.decides self.old.decider) self.old.day client call).asked) }
         ensures day { let d = D.decides self.old.decider in
             OnOk result (self.new.day ≡ Days.file_called d self.old.day client call (Days.file_answer d self.old.day client call)) }
         ensures opening { IsSameOpening self.old.day self.new.day }
@@ -43,6 +45,7 @@ impl<'d, D: Decider> Desk<'d, D> {
     }
 
     /// Does a client's call of the manager of processes, under its held pass or else a pass of the newest number.
+    #[tactic(auto, using(managed::proofs::AskedLemmas::asked_last))]
     pub fn call_process(
         &mut self,
         alloc: Global,
@@ -55,6 +58,7 @@ impl<'d, D: Decider> Desk<'d, D> {
         requires countable { self.old.day.calls + 1 < 2 ^ 64 }
         ensures reply { IfOk result (λ acted. acted.reply ≡ (Days.process_answer (D.decides self.old.decider) self.old.day client call).reply) }
         ensures number { IfOk result (λ acted. acted.number ≡ Posts.acting_number self.old.day.processes client) }
+        ensures asked { OnOk result (self.new.asked.processes ≡ (Days.process_answer (D.decides self.old.decider) self.old.day client call).asked) }
         ensures day { let d = D.decides self.old.decider in
             OnOk result (self.new.day ≡ Days.process_called d self.old.day client call (Days.process_answer d self.old.day client call)) }
         ensures opening { IsSameOpening self.old.day self.new.day }
@@ -68,6 +72,7 @@ impl<'d, D: Decider> Desk<'d, D> {
     }
 
     /// Does a client's call of the manager of ports, under its held pass or else a pass of the newest number.
+    #[tactic(auto, using(managed::proofs::AskedLemmas::asked_last))]
     pub fn call_port(
         &mut self,
         alloc: Global,
@@ -80,6 +85,7 @@ impl<'d, D: Decider> Desk<'d, D> {
         requires countable { self.old.day.calls + 1 < 2 ^ 64 }
         ensures reply { IfOk result (λ acted. acted.reply ≡ (Days.port_answer (D.decides self.old.decider) self.old.day client call).reply) }
         ensures number { IfOk result (λ acted. acted.number ≡ Posts.acting_number self.old.day.ports client) }
+        ensures asked { OnOk result (self.new.asked.ports ≡ (Days.port_answer (D.decides self.old.decider) self.old.day client call).asked) }
         ensures day { let d = D.decides self.old.decider in
             OnOk result (self.new.day ≡ Days.port_called d self.old.day client call (Days.port_answer d self.old.day client call)) }
         ensures opening { IsSameOpening self.old.day self.new.day }

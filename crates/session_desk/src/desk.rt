@@ -1,9 +1,9 @@
 ghost use Rattle.std.specs.Prelude.{◌≡◌, IfOk};
 ghost use Rattle.session_desk.specs.Days;
-ghost use Rattle.session_desk.specs.Desks.{AreOpenings};
+ghost use Rattle.session_desk.specs.Desks.{AreOpenings, none_asked};
 
 use crate::opening::Openings;
-use access_vectors::Decider;
+use access_vectors::{Asked, Decider};
 use file_manager::FileCore;
 use flask_sid::Memory;
 use managed::Plain;
@@ -41,7 +41,7 @@ impl<'d, D: Decider> Model for Desk<'d, D> {
     ghost use Rattle.file_store.specs.Stores as file_store;
     ghost use Rattle.process_store.specs.Stores as process_store;
     ghost use Rattle.port_store.specs.Stores as port_store;
-    ghost use Rattle.managed.specs.Posts.{post_of};
+    ghost use Rattle.managed.specs.Posts.{post_of, last_asked};
     ghost use Rattle.session_desk.specs.Days.{most_number};
     ghost use Rattle.session_desk.specs.Desks.{Standing, standing_code};
 
@@ -59,6 +59,11 @@ impl<'d, D: Decider> Model for Desk<'d, D> {
         changes = desk.changes;
       };
       decider = desk.decider.now;
+      asked = record {
+        files = last_asked desk.files.keeper.history;
+        processes = last_asked desk.processes.keeper.history;
+        ports = last_asked desk.ports.keeper.history;
+      };
     } };
 
     ghost invariant = { λ desk. (desk.files.keeper.decider ≡ desk.decider.now)
@@ -82,9 +87,10 @@ pub struct Acted<R> {
 
 impl<'d, D: Decider> Desk<'d, D> {
     /// The desk before the first line.
+    #[tactic(auto, unfolding(managed::specs::Posts::last_asked))]
     pub fn new(alloc: Global, decider: &'d D, openings: Openings) -> Result<Desk<'d, D>, Memory>
         requires { AreOpenings (D.decides decider.now) openings }
-        ensures { IfOk result (λ desk. desk ≡ record { day = Days.morning_of openings; decider = decider.now }) }
+        ensures { IfOk result (λ desk. desk ≡ record { day = Days.morning_of openings; decider = decider.now; asked = none_asked }) }
     {
         let Openings {
             files,
@@ -103,6 +109,27 @@ impl<'d, D: Decider> Desk<'d, D> {
             denied: 0,
             changes: 0,
         })
+    }
+
+    /// What the newest call of the manager of files asked.
+    pub fn asked_of_files(&self) -> &[Asked]
+        ensures { result.now ≡ self.now.asked.files }
+    {
+        self.files.last_asked()
+    }
+
+    /// What the newest call of the manager of processes asked.
+    pub fn asked_of_processes(&self) -> &[Asked]
+        ensures { result.now ≡ self.now.asked.processes }
+    {
+        self.processes.last_asked()
+    }
+
+    /// What the newest call of the manager of ports asked.
+    pub fn asked_of_ports(&self) -> &[Asked]
+        ensures { result.now ≡ self.now.asked.ports }
+    {
+        self.ports.last_asked()
     }
 
     /// The counts of the summary: calls, calls denied, changes complete.

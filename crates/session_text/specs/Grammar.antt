@@ -1,73 +1,44 @@
 -- What a line of a session text asks of the lines above it, and what it adds to them.
-use Rattle.std.specs.Prelude.{ℕ, ◌+◌, Bool, true, false, ◌||◌, not, ◌==◌, nat_le, nat_lt, List, [], ◌∷◌, ◌++◌, length, replicate, slice_get, slice_set, Option, Some, None, is_some, option_and_then, unwrap_or, Result, Ok, Err, if◌then◌else◌, codes}
-use Rattle.std.specs.List.{list_any, position}
-use Rattle.std.specs.Option.{option_or, option_map}
+use Rattle.std.specs.Prelude.{ℕ, Bool, true, false, ◌||◌, not, ◌==◌, nat_le, nat_lt, List, [], ◌∷◌, ◌++◌, length, Option, Some, None, Result, Ok, Err, if◌then◌else◌, codes}
 use Rattle.std.specs.Str.{bytes_eq}
 use Rattle.flask_sid.specs.Names.{is_long}
 use Rattle.flask_sid.specs.Contexts.{is_long_context}
 use Rattle.flask_sid.specs.declared.context.ContextOf.{ContextOf}
 use Rattle.text_lines.specs.declared.fault.FaultKind.{FaultKind}
-use Rattle.text_lines.specs.declared.fault.FaultKind.TheVariants.{Syntax, Order, Limit, Unknown, Undeclared, Twice, Unbuilt}
+use Rattle.text_lines.specs.declared.fault.FaultKind.TheVariants.{Syntax, Order, Limit, Unknown, Undeclared, Twice}
+use Rattle.text_lines.specs.Lines.{line_words}
 use Rattle.text_lines.specs.ResultSteps.{◌>>=◌, found_or}
 use Rattle.policy_text.specs.declared.policy.ContextLine.{ContextLine}
-use Rattle.policy_text.specs.Above.{same_context}
 use Rattle.file_calls.specs.Openings.{has_node, is_parent_there}
 use Rattle.file_calls.specs.declared.call.FileCall.{FileCall}
 use Rattle.file_calls.specs.declared.call.FileCall.TheVariants as call
 use Rattle.file_calls.specs.declared.opening.Node.{Node}
-use Rattle.session_text.specs.PathForms.{is_long_path}
-use Rattle.session_text.specs.RunForms.{run_form}
-use Rattle.session_text.specs.Ranges.{is_long_data, is_past_place, is_past_call}
-use Rattle.session_text.specs.declared.call_forms.CallForm.{CallForm}
+use Rattle.session_forms.specs.PathForms.{is_long_path}
+use Rattle.session_forms.specs.RunForms.{run_form}
+use Rattle.session_forms.specs.Ranges.{is_long_data, is_past_place, is_past_call}
+use Rattle.session_forms.specs.declared.call_forms.CallForm.{CallForm}
 use Rattle.process_calls.specs.declared.call.ProcessCall.{ProcessCall}
-use Rattle.process_calls.specs.declared.call.ProcessCall.TheVariants as process_call
+use Rattle.process_calls.specs.declared.call.ProcessCall.TheVariants as process_calls
 use Rattle.port_calls.specs.declared.call.PortCall.{PortCall}
-use Rattle.port_calls.specs.declared.call.PortCall.TheVariants as port_call
-use Rattle.port_calls.specs.declared.opening.LabelledPort.{LabelledPort}
-use Rattle.session_text.specs.declared.call_forms.CallForm.TheVariants.{OfFile, OfProcess, OfPort}
-use Rattle.session_text.specs.declared.call_forms.FileForm.{FileForm}
-use Rattle.session_text.specs.declared.call_forms.FileForm.TheVariants as file
-use Rattle.session_text.specs.declared.call_forms.ProcessForm.{ProcessForm}
-use Rattle.session_text.specs.declared.call_forms.ProcessForm.TheVariants as process
-use Rattle.session_text.specs.declared.call_forms.PortForm.{PortForm}
-use Rattle.session_text.specs.declared.call_forms.PortForm.TheVariants as port
-use Rattle.session_text.specs.declared.run_forms.Manager.{Manager}
-use Rattle.session_text.specs.declared.run_forms.Manager.TheVariants as manager
-use Rattle.session_text.specs.declared.run_forms.RunForm.{RunForm}
-use Rattle.session_text.specs.declared.run_forms.RunForm.TheVariants as form
-use Rattle.session_text.specs.declared.setup_forms.Initial.{Initial}
-use Rattle.session_text.specs.declared.setup_forms.Initial.TheVariants.{Root, Ports}
+use Rattle.port_calls.specs.declared.call.PortCall.TheVariants as port_calls
+use Rattle.session_forms.specs.declared.call_forms.CallForm.TheVariants.{OfFile, OfProcess, OfPort}
+use Rattle.session_forms.specs.declared.call_forms.FileForm.{FileForm}
+use Rattle.session_forms.specs.declared.call_forms.FileForm.TheVariants as file
+use Rattle.session_forms.specs.declared.call_forms.ProcessForm.{ProcessForm}
+use Rattle.session_forms.specs.declared.call_forms.ProcessForm.TheVariants as process
+use Rattle.session_forms.specs.declared.call_forms.PortForm.{PortForm}
+use Rattle.session_forms.specs.declared.call_forms.PortForm.TheVariants as port
+use Rattle.session_forms.specs.declared.run_forms.Manager.{Manager}
+use Rattle.session_forms.specs.declared.run_forms.RunForm.{RunForm}
+use Rattle.session_forms.specs.declared.run_forms.RunForm.TheVariants as form
+use Rattle.session_forms.specs.declared.setup_forms.Initial.{Initial}
+use Rattle.session_forms.specs.declared.setup_forms.Initial.TheVariants.{Root, Ports}
 use Rattle.session_text.specs.declared.session.ClientLine.{ClientLine}
 use Rattle.session_text.specs.declared.session.Run.{Run}
 use Rattle.session_text.specs.declared.session.Run.TheVariants.{File, Process, Port, Begin, End, Notify, Update, Ack}
 use Rattle.session_text.specs.declared.session.SessionParts.{SessionParts}
-use Rattle.session_text.specs.declared.running.ClientPasses.{ClientPasses}
-
--- how many there may be: nodes besides the root, ports with contexts of their own, and clients
-abbrev pub node_limit : ℕ
-node_limit = 4095
-
-abbrev pub port_limit : ℕ
-port_limit = 1024
-
-abbrev pub client_limit : ℕ
-client_limit = 62
-
--- the identifier of a place among the context lines, of which there are at most 4,095
-abbrev pub sid_at : ℕ → Option ℕ
-sid_at at = if nat_lt at 4095 then Some (at + 1) else None
-
--- the identifier of a declared context: its place among the context lines, from 1
-unfoldable pub context_sid : List ContextLine → ContextOf (List ℕ) → Option ℕ
-context_sid contexts context = option_and_then sid_at (position (λ line. same_context line.context context) contexts)
-
--- the number of a client
-unfoldable pub client_number : List ClientLine → List ℕ → Option ℕ
-client_number clients name = position (λ client. bytes_eq client.name name) clients
-
--- a client of that name is there
-unfoldable pub has_client : List ClientLine → List ℕ → Bool
-has_client clients name = list_any (λ client. bytes_eq client.name name) clients
+use Rattle.session_text.specs.Above.{node_limit, port_limit, client_limit, context_sid, client_number, has_client, has_port}
+use Rattle.session_text.specs.Sessions.{is_held}
 
 -- the bytes of a file: none without a datum
 abbrev pub data_bytes : Option (List ℕ) → List ℕ
@@ -76,11 +47,15 @@ data_bytes (Some bytes) = bytes
 
 -- a session with the root's context
 abbrev pub with_root : ℕ → SessionParts → SessionParts
-with_root sid session = record session { root = Some sid }
+with_root sid session = record session { root = sid }
 
 -- a session with the context of ports without a line
 abbrev pub with_initial_port : ℕ → SessionParts → SessionParts
-with_initial_port sid session = record session { port = Some sid }
+with_initial_port sid session = record session { port = sid }
+
+-- a session whose audit lines are printed
+abbrev pub with_audit : SessionParts → SessionParts
+with_audit session = record session { audit = true }
 
 -- a session with one port more that has a context of its own
 abbrev pub with_port : ℕ → ℕ → SessionParts → SessionParts
@@ -149,20 +124,34 @@ client_read name context session =
     if is_past_client name context (length session.clients) then Err Limit
     else client_sid name context session >>= λ sid. Ok (with_client name sid session)
 
--- whose context a declared one is to be: the root's or that of the ports, where there is none yet
-unfoldable pub initial_with : Initial → ℕ → SessionParts → Result SessionParts FaultKind
-initial_with Root sid session = if is_some session.root then Err Twice else Ok (with_root sid session)
-initial_with Ports sid session = if is_some session.port then Err Twice else Ok (with_initial_port sid session)
+-- what session lines said so far: the session, and whose context an `initial` line gave
+pub record Setup : Type 0 where
+  pub session : SessionParts
+  pub root_given : Bool
+  pub port_given : Bool
+
+-- with another session
+abbrev pub set_up : Setup → SessionParts → Setup
+set_up setup session = record { session = session; root_given = setup.root_given; port_given = setup.port_given }
+
+-- whose context a declared one is to be: the root's or that of the ports, where no line gave it yet
+unfoldable pub initial_with : Initial → ℕ → Setup → Result Setup FaultKind
+initial_with Root sid setup =
+    if setup.root_given then Err Twice
+    else Ok (record { session = with_root sid setup.session; root_given = true; port_given = setup.port_given })
+initial_with Ports sid setup =
+    if setup.port_given then Err Twice
+    else Ok (record { session = with_initial_port sid setup.session; root_given = setup.root_given; port_given = true })
 
 -- an `initial` line
-unfoldable pub initial_read : Initial → ContextOf (List ℕ) → SessionParts → Result SessionParts FaultKind
-initial_read what context session =
+unfoldable pub initial_read : Initial → ContextOf (List ℕ) → Setup → Result Setup FaultKind
+initial_read what context setup =
     if is_long_context context then Err Limit
-    else found_or Undeclared (context_sid session.policy.contexts context) >>= λ sid. initial_with what sid session
+    else found_or Undeclared (context_sid setup.session.policy.contexts context) >>= λ sid. initial_with what sid setup
 
--- a port of that number has a context of its own
-unfoldable pub has_port : List LabelledPort → ℕ → Bool
-has_port ports number = list_any (λ line. line.port == number) ports
+-- an `audit` line
+unfoldable pub audit_read : SessionParts → Result SessionParts FaultKind
+audit_read session = if session.audit then Err Twice else Ok (with_audit session)
 
 -- a `port` line past a limit, below so many of them
 unfoldable pub is_past_port_line : ℕ → ContextOf (List ℕ) → ℕ → Bool
@@ -178,165 +167,99 @@ port_read number context session =
     if is_past_port_line number context (length session.ports) then Err Limit
     else found_or Undeclared (context_sid session.policy.contexts context) >>= λ sid. port_with number sid session
 
--- a session whose lines run: what it says so far, and which passes each client holds, by number
-pub record Running : Type 0 where
-  pub session : SessionParts
-  pub held : List ClientPasses
-
--- a client that holds no pass
-abbrev pub no_pass : ClientPasses
-no_pass = record { file = false; process = false; port = false }
-
--- a client holds a pass of a manager
-abbrev pub has_pass : Manager → ClientPasses → Bool
-has_pass manager.File passes = passes.file
-has_pass manager.Process passes = passes.process
-has_pass manager.Port passes = passes.port
-
--- a client with a pass of a manager, or without
-abbrev pub with_pass : Manager → Bool → ClientPasses → ClientPasses
-with_pass manager.File now passes = record { file = now; process = passes.process; port = passes.port }
-with_pass manager.Process now passes = record { file = passes.file; process = now; port = passes.port }
-with_pass manager.Port now passes = record { file = passes.file; process = passes.process; port = now }
-
--- a session whose lines begin to run: no client holds a pass
-abbrev pub begun : SessionParts → Running
-begun session = record { session = session; held = replicate (length session.clients) no_pass }
-
--- the passes that a client holds
-abbrev pub passes_of : List ClientPasses → ℕ → ClientPasses
-passes_of held client = unwrap_or (slice_get held client) no_pass
-
--- a client of that name holds a pass of that manager; one that was not declared holds none
-unfoldable pub holds : Manager → Running → List ℕ → Bool
-holds manager running name = number_holds (client_number running.session.clients name)
+-- a client of that name holds a pass of that manager by the lines above; one that was not declared holds none
+unfoldable pub holds : Manager → SessionParts → List ℕ → Bool
+holds manager session name = number_holds (client_number session.clients name)
   where
     number_holds : Option ℕ → Bool
     number_holds None = false
-    number_holds (Some client) = has_pass manager (passes_of running.held client)
+    number_holds (Some client) = is_held session.lines client manager
 
--- a session with one line more, in which no pass is taken or given back
-abbrev pub running_on : Running → ℕ → Run → Running
-running_on running n run = record { session = with_line n run running.session; held = running.held }
-
--- a session with one line more, with which a client takes a pass of a manager or gives it back
-abbrev pub held_on : Running → ℕ → Run → ℕ → Manager → Bool → Running
-held_on running n run client manager now =
-    record { session = with_line n run running.session; held = slice_set running.held client (with_pass manager now (passes_of running.held client)) }
-
--- the client that a call names besides its caller is declared
-unfoldable pub is_receiver_known : List ClientLine → CallForm → Bool
-is_receiver_known clients (OfFile (file.Give slot client target)) = has_client clients client
-is_receiver_known clients said = true
-
--- the context that a call names is declared
-unfoldable pub is_context_known : List ContextLine → CallForm → Bool
-is_context_known contexts (OfFile (file.Relabel path context)) = is_some (context_sid contexts context)
-is_context_known contexts (OfProcess (process.Exec pid context)) = is_some (context_sid contexts context)
-is_context_known contexts said = true
-
--- the call of the file manager by a slot, whose receiver is the client of its name
-unfoldable pub slot_call : List ClientLine → FileForm → Option FileCall
-slot_call clients (file.Open slot path mode) = Some (call.OpenFile slot path mode)
-slot_call clients (file.Read slot offset most) = Some (call.ReadFile slot offset most)
-slot_call clients (file.Write slot offset bytes) = Some (call.WriteFile slot offset bytes)
-slot_call clients (file.Append slot bytes) = Some (call.AppendFile slot bytes)
-slot_call clients (file.Close slot) = Some (call.CloseFile slot)
-slot_call clients (file.Give slot client target) = option_map (λ number. call.Give slot number target) (client_number clients client)
-slot_call clients said = None
-
--- the call of the file manager by a path, with the identifier of its context
-unfoldable pub path_call : List ContextLine → FileForm → Option FileCall
-path_call contexts (file.Mkdir path) = Some (call.Mkdir path)
-path_call contexts (file.Create path) = Some (call.Create path)
-path_call contexts (file.Unlink path) = Some (call.Unlink path)
-path_call contexts (file.List path skip) = Some (call.List path skip)
-path_call contexts (file.Stat path) = Some (call.StatFile path)
-path_call contexts (file.Relabel path context) = option_map (λ sid. call.Relabel path sid) (context_sid contexts context)
-path_call contexts said = None
+-- the call of the file manager: a receiver is the client of its name, and a context's identifier its place
+unfoldable pub file_call : List ContextLine → List ClientLine → FileForm → Result FileCall FaultKind
+file_call contexts clients (file.Mkdir path) = Ok (call.Mkdir path)
+file_call contexts clients (file.Create path) = Ok (call.Create path)
+file_call contexts clients (file.Unlink path) = Ok (call.Unlink path)
+file_call contexts clients (file.Open slot path mode) = Ok (call.OpenFile slot path mode)
+file_call contexts clients (file.Read slot offset most) = Ok (call.ReadFile slot offset most)
+file_call contexts clients (file.Write slot offset bytes) = Ok (call.WriteFile slot offset bytes)
+file_call contexts clients (file.Append slot bytes) = Ok (call.AppendFile slot bytes)
+file_call contexts clients (file.Close slot) = Ok (call.CloseFile slot)
+file_call contexts clients (file.List path skip) = Ok (call.List path skip)
+file_call contexts clients (file.Stat path) = Ok (call.StatFile path)
+file_call contexts clients (file.Relabel path context) = found_or Undeclared (context_sid contexts context) >>= λ sid. Ok (call.Relabel path sid)
+file_call contexts clients (file.Give slot client target) = found_or Unknown (client_number clients client) >>= λ number. Ok (call.Give slot number target)
 
 -- the call of the process manager, with the identifier of its context
-unfoldable pub process_call_of : List ContextLine → ProcessForm → Option ProcessCall
-process_call_of contexts (process.Fork pid) = Some (process_call.Fork pid)
-process_call_of contexts (process.Exec pid context) = option_map (λ sid. process_call.Exec pid sid) (context_sid contexts context)
-process_call_of contexts (process.Signal pid number) = Some (process_call.Signal pid number)
-process_call_of contexts (process.Exit pid code) = Some (process_call.Exit pid code)
-process_call_of contexts (process.Wait pid) = Some (process_call.Wait pid)
-process_call_of contexts (process.Attach slot pid) = Some (process_call.Attach slot pid)
-process_call_of contexts (process.Peek slot) = Some (process_call.Peek slot)
-process_call_of contexts (process.Poke slot value) = Some (process_call.Poke slot value)
-process_call_of contexts (process.Detach slot) = Some (process_call.Detach slot)
-process_call_of contexts (process.Stat pid) = Some (process_call.StatProcess pid)
+unfoldable pub process_call : List ContextLine → ProcessForm → Result ProcessCall FaultKind
+process_call contexts (process.Fork pid) = Ok (process_calls.Fork pid)
+process_call contexts (process.Exec pid context) = found_or Undeclared (context_sid contexts context) >>= λ sid. Ok (process_calls.Exec pid sid)
+process_call contexts (process.Signal pid number) = Ok (process_calls.Signal pid number)
+process_call contexts (process.Exit pid code) = Ok (process_calls.Exit pid code)
+process_call contexts (process.Wait pid) = Ok (process_calls.Wait pid)
+process_call contexts (process.Attach slot pid) = Ok (process_calls.Attach slot pid)
+process_call contexts (process.Peek slot) = Ok (process_calls.Peek slot)
+process_call contexts (process.Poke slot value) = Ok (process_calls.Poke slot value)
+process_call contexts (process.Detach slot) = Ok (process_calls.Detach slot)
+process_call contexts (process.Stat pid) = Ok (process_calls.StatProcess pid)
 
 -- the call of the port manager
-unfoldable pub port_call_of : PortForm → PortCall
-port_call_of (port.Bind slot number mode) = port_call.Bind slot number mode
-port_call_of (port.Connect slot number mode) = port_call.Connect slot number mode
-port_call_of (port.Recv slot) = port_call.Recv slot
-port_call_of (port.Push slot bytes) = port_call.Push slot bytes
-port_call_of (port.Send number bytes) = port_call.Send number bytes
-port_call_of (port.Unbind slot) = port_call.Unbind slot
-port_call_of (port.Stat number) = port_call.StatPort number
+unfoldable pub port_call : PortForm → PortCall
+port_call (port.Bind slot number mode) = port_calls.Bind slot number mode
+port_call (port.Connect slot number mode) = port_calls.Connect slot number mode
+port_call (port.Recv slot) = port_calls.Recv slot
+port_call (port.Push slot bytes) = port_calls.Push slot bytes
+port_call (port.Send number bytes) = port_calls.Send number bytes
+port_call (port.Unbind slot) = port_calls.Unbind slot
+port_call (port.Stat number) = port_calls.StatPort number
 
--- what a client's call asks. What it names is declared.
-unfoldable pub asked_call : SessionParts → ℕ → CallForm → Option Run
-asked_call session client (OfFile said) = option_map (File client) (option_or (slot_call session.clients said) (path_call session.policy.contexts said))
-asked_call session client (OfProcess said) = option_map (Process client) (process_call_of session.policy.contexts said)
-asked_call session client (OfPort said) = Some (Port client (port_call_of said))
+-- what a client's call asks: what it names is declared
+unfoldable pub asked_call : SessionParts → ℕ → CallForm → Result Run FaultKind
+asked_call session client (OfFile said) = file_call session.policy.contexts session.clients said >>= λ call. Ok (File client call)
+asked_call session client (OfProcess said) = process_call session.policy.contexts said >>= λ call. Ok (Process client call)
+asked_call session client (OfPort said) = Ok (Port client (port_call said))
 
--- a call whose arguments are declared
-unfoldable pub declared_call_read : ℕ → ℕ → CallForm → Running → Result Running FaultKind
-declared_call_read n client said running =
-    found_or Unbuilt (asked_call running.session client said) >>= λ run. Ok (running_on running n run)
-
--- a call of the client of that number
-unfoldable pub numbered_call_read : ℕ → ℕ → CallForm → Running → Result Running FaultKind
-numbered_call_read n client said running =
-    if not (is_receiver_known running.session.clients said) then Err Unknown
-    else if not (is_context_known running.session.policy.contexts said) then Err Undeclared
-    else declared_call_read n client said running
-
--- a client's call
-unfoldable pub client_call_read : ℕ → List ℕ → CallForm → Running → Result Running FaultKind
-client_call_read n name said running =
+-- a client's call, line n
+unfoldable pub client_call_read : ℕ → List ℕ → CallForm → SessionParts → Result SessionParts FaultKind
+client_call_read n name said session =
     if is_long name || is_past_call said then Err Limit
-    else found_or Unknown (client_number running.session.clients name) >>= λ client. numbered_call_read n client said running
+    else found_or Unknown (client_number session.clients name) >>= λ client. asked_call session client said >>= λ run. Ok (with_line n run session)
 
 -- a `begin` line
-unfoldable pub begin_read : ℕ → List ℕ → Manager → Running → Result Running FaultKind
-begin_read n name manager running =
-    if holds manager running name then Err Order
+unfoldable pub begin_read : ℕ → List ℕ → Manager → SessionParts → Result SessionParts FaultKind
+begin_read n name manager session =
+    if holds manager session name then Err Order
     else if is_long name then Err Limit
-    else found_or Unknown (client_number running.session.clients name) >>= λ client. Ok (held_on running n (Begin client manager) client manager true)
+    else found_or Unknown (client_number session.clients name) >>= λ client. Ok (with_line n (Begin client manager) session)
 
 -- an `end` line
-unfoldable pub end_read : ℕ → List ℕ → Manager → Running → Result Running FaultKind
-end_read n name manager running =
-    if not (holds manager running name) then Err Order
-    else found_or Unknown (client_number running.session.clients name) >>= λ client. Ok (held_on running n (End client manager) client manager false)
+unfoldable pub end_read : ℕ → List ℕ → Manager → SessionParts → Result SessionParts FaultKind
+end_read n name manager session =
+    if not (holds manager session name) then Err Order
+    else found_or Unknown (client_number session.clients name) >>= λ client. Ok (with_line n (End client manager) session)
 
 -- a `notify` line
-unfoldable pub notify_read : ℕ → ℕ → Running → Result Running FaultKind
-notify_read n version running = if nat_lt 255 version then Err Limit else Ok (running_on running n (Notify version))
+unfoldable pub notify_read : ℕ → ℕ → SessionParts → Result SessionParts FaultKind
+notify_read n version session = if nat_lt 255 version then Err Limit else Ok (with_line n (Notify version) session)
 
 -- an `update` line
-unfoldable pub update_read : ℕ → ℕ → Running → Result Running FaultKind
-update_read n most running = if nat_lt 4294967295 most then Err Limit else Ok (running_on running n (Update most))
-
--- an `ack` line
-unfoldable pub ack_read : ℕ → Running → Result Running FaultKind
-ack_read n running = Ok (running_on running n Ack)
+unfoldable pub update_read : ℕ → ℕ → SessionParts → Result SessionParts FaultKind
+update_read n most session = if nat_lt 4294967295 most then Err Limit else Ok (with_line n (Update most) session)
 
 -- a line of this form that runs
-unfoldable pub run_read : ℕ → RunForm → Running → Result Running FaultKind
-run_read n (form.Call name said) running = client_call_read n name said running
-run_read n (form.Begin name manager) running = begin_read n name manager running
-run_read n (form.End name manager) running = end_read n name manager running
-run_read n (form.Notify version) running = notify_read n version running
-run_read n (form.Update most) running = update_read n most running
-run_read n form.Ack running = ack_read n running
+unfoldable pub run_read : ℕ → RunForm → SessionParts → Result SessionParts FaultKind
+run_read n (form.Call name said) session = client_call_read n name said session
+run_read n (form.Begin name manager) session = begin_read n name manager session
+run_read n (form.End name manager) session = end_read n name manager session
+run_read n (form.Notify version) session = notify_read n version session
+run_read n (form.Update most) session = update_read n most session
+run_read n form.Ack session = Ok (with_line n Ack session)
 
 -- what a line that runs says, if anything
-unfoldable pub run_words_read : ℕ → List (List ℕ) → Running → Result Running FaultKind
-run_words_read n [] running = Ok running
-run_words_read n (first ∷ words) running = found_or Syntax (run_form first words) >>= λ said. run_read n said running
+unfoldable pub run_words_read : ℕ → List (List ℕ) → SessionParts → Result SessionParts FaultKind
+run_words_read n [] session = Ok session
+run_words_read n (first ∷ words) session = found_or Syntax (run_form first words) >>= λ said. run_read n said session
+
+-- line number n, which runs
+unfoldable pub run_line_read : ℕ → List ℕ → SessionParts → Result SessionParts FaultKind
+run_line_read n line session = line_words n line >>= λ words. run_words_read n words session

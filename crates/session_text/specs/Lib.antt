@@ -1,10 +1,6 @@
-pub mod PathForms
-pub mod Arguments
-pub mod CallForms
-pub mod Ranges
-pub mod SetupForms
-pub mod RunForms
-pub mod ArgumentForms
+pub mod Above
 pub mod Sessions
+pub mod Passes
 pub mod Grammar
+pub mod Progress
 pub mod Reading

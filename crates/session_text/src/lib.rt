@@ -1,23 +1,18 @@
 //! Sessions, as texts: a policy, what is there at the start, the clients, and the lines that are run.
 #![tactic(auto)]
 
-mod arguments;
-mod built;
-mod call_forms;
+mod calls;
 mod look_up;
-mod parts;
-mod ranges;
+mod passes;
 mod reader;
-mod run_forms;
+mod run_lines;
 mod running;
 mod session;
 mod setup;
-mod setup_forms;
+mod setup_lines;
 
-pub use call_forms::{CallForm, FileForm, PortForm, ProcessForm};
-pub use parts::{Parts, path_form};
-pub use reader::{SessionReader, read};
-pub use run_forms::{Manager, RunForm, run_form};
+pub use passes::{ClientPasses, PassChange, PassTable};
+pub use reader::{RunReader, SessionReader, SetupReader, read};
 pub use running::Running;
 pub use session::{ClientLine, Run, RunLine, Session, SessionParts};
-pub use setup_forms::{Initial, SetupForm, setup_form};
+pub use setup::Setup;

@@ -1,13 +1,13 @@
 //! What the lines above have: contexts, nodes and clients by their words.
 
-ghost use Rattle.std.specs.Prelude.{◌≡◌, ◌<◌, ◌≤◌, ◌&&◌, Some, length, IfSome};
-ghost use Rattle.std.specs.List.{list_any, position};
+ghost use Rattle.std.specs.Prelude.{◌≡◌, ◌<◌, ◌≤◌, ◌&&◌, length, IfSome};
+ghost use Rattle.std.specs.List.{position};
 ghost use Rattle.std.specs.Str.{bytes_eq};
 ghost use Rattle.file_tree.specs.Nodes.{is_directory_node};
 ghost use Rattle.file_calls.specs.Paths.{same_path};
 ghost use Rattle.file_calls.specs.Openings;
 ghost use Rattle.policy_text.specs.Above.{same_context};
-ghost use Rattle.session_text.specs.Grammar;
+ghost use Rattle.session_text.specs.Above;
 ghost use Rattle.session_text.specs.Sessions.{IsSidOf};
 
 use crate::session::ClientLine;
@@ -17,9 +17,9 @@ use policy_text::ContextLine;
 use port_calls::LabelledPort;
 
 /// The identifier of a declared context: its place among the `context` lines, from 1.
-#[tactic(auto, unfolding(crate::specs::Grammar::context_sid))]
+#[tactic(auto, unfolding(crate::specs::Above::context_sid))]
 pub fn context_sid(contexts: &[ContextLine], context: &ContextOf<Word<'_>>) -> Option<Sid>
-    ensures value { result ≡ Grammar.context_sid contexts.now context.now }
+    ensures value { result ≡ Above.context_sid contexts.now context.now }
     ensures known { IfSome result (IsSidOf contexts.now) }
 {
     match context_place(contexts, context) {
@@ -50,10 +50,10 @@ fn is_context(line: &ContextLine, context: &ContextOf<Word<'_>>) -> bool
 }
 
 /// The number of a client.
-#[tactic(auto, unfolding(crate::specs::Grammar::client_number))]
+#[tactic(auto, unfolding(crate::specs::Above::client_number))]
 pub fn client_number(clients: &[ClientLine], name: &Word<'_>) -> Option<u8>
     requires { length clients.now ≤ 62 }
-    ensures value { result ≡ Grammar.client_number clients.now name.now }
+    ensures value { result ≡ Above.client_number clients.now name.now }
     ensures within { IfSome result (λ number. number < length clients.now) }
 {
     match client_place(clients, name) {
@@ -70,17 +70,17 @@ fn client_place(clients: &[ClientLine], name: &Word<'_>) -> Option<usize>
 }
 
 /// Whether a client of that name is there.
-#[tactic(auto, unfolding(crate::specs::Grammar::has_client))]
+#[tactic(auto, unfolding(crate::specs::Above::has_client))]
 pub fn has_client(clients: &[ClientLine], name: &Word<'_>) -> bool
-    ensures { result ≡ Grammar.has_client clients.now name.now }
+    ensures { result ≡ Above.has_client clients.now name.now }
 {
     clients.iter().any(|client| client.name.is(name))
 }
 
 /// Whether a port of that number has a context of its own.
-#[tactic(auto, unfolding(crate::specs::Grammar::has_port))]
+#[tactic(auto, unfolding(crate::specs::Above::has_port))]
 pub fn has_port(ports: &[LabelledPort], number: u32) -> bool
-    ensures { result ≡ Grammar.has_port ports.now number }
+    ensures { result ≡ Above.has_port ports.now number }
 {
     ports.iter().any(|line| line.port == number)
 }

@@ -1,15 +1,13 @@
-ghost use Rattle.std.specs.Prelude.{◌≡◌, ◌<◌, ◌≤◌, [], length, None, IfOk, IfSome};
-ghost use Rattle.session_text.specs.Sessions.{IsSession, IsSidOf, IsPlace, IsPortPlace, IsRun};
+ghost use Rattle.std.specs.Prelude.{◌≡◌, ◌≤◌, length, OnOk, OnErr};
 ghost use Rattle.session_text.specs.Grammar;
+ghost use Rattle.session_text.specs.Sessions.{IsSession, MayLine};
 
-use crate::look_up::context_sid;
-use crate::run_forms::Manager;
-use file_calls::{FileCall, FilePath, Node};
-use flask_sid::{ContextOf, Memory, Name, Piece, Rows, Sid, Word};
+use file_calls::{FileCall, Node};
+use flask_sid::{Memory, Name, Rows, Sid};
 use policy_text::{ContextLine, PolicyText};
 use port_calls::{LabelledPort, PortCall};
 use process_calls::ProcessCall;
-use std::alloc::Global;
+use session_forms::Manager;
 use std::marker::Model;
 
 /// A client. Clients are numbered from 0 in the order of their lines.
@@ -52,12 +50,14 @@ pub struct RunLine {
 #[derive(Debug, Drop)]
 pub struct SessionParts {
     pub policy: PolicyText,
-    /// The place of the root's context, where an `initial root` line gives it.
-    pub root: Option<Sid>,
-    /// The place of the context of ports without a line of their own, where an `initial port` line gives it.
-    pub port: Option<Sid>,
+    /// The place of the root's context among the `context` lines, from 1: that of an `initial root` line, or else 1.
+    pub root: Sid,
+    /// The place of the context of ports without a line of their own: that of an `initial port` line, or else 1.
+    pub port: Sid,
     /// The ports with contexts of their own. A port's `sid` is the place of its context, from 1.
     pub ports: Rows<LabelledPort>,
+    /// Whether an `audit` line asks that audit lines be printed.
+    pub audit: bool,
     /// The files and directories that are there at the start. A node's `sid` is the place of its context among the
     /// `context` lines, from 1.
     pub nodes: Rows<Node>,
@@ -65,9 +65,10 @@ pub struct SessionParts {
     pub lines: Rows<RunLine>,
 }
 
-/// A session. It keeps what the grammar asks of one: root, ports, nodes and clients have declared contexts, each node
-/// stands in a directory before it, the clients are at most 62, and each line is one of a client of the session, with
-/// numbers in their ranges and of declared names.
+/// A session. It keeps what the grammar asks of one: root, ports, nodes and clients have declared contexts; paths,
+/// names, numbers and data have their forms and limits; each node stands in a directory before it; no port, path or
+/// name is given twice; each line is one of a client of the session and names what is declared; passes are taken and
+/// given back in turn; and the numbers of the lines rise.
 #[derive(Debug, Drop)]
 pub struct Session {
     parts: SessionParts,
@@ -85,19 +86,20 @@ impl Model for Session {
 }
 
 impl Session {
-    /// What the session says.
-    pub fn parts(&self) -> &SessionParts
-        ensures { result.now ≡ self.now }
+    /// A session of parts that are one.
+    pub fn of(parts: SessionParts) -> Session
+        requires { IsSession parts }
+        ensures { result ≡ parts }
     {
-        &self.parts
+        Session { parts }
     }
 
-    /// The identifier of a declared context.
-    pub(crate) fn sid_of(&self, context: &ContextOf<Word<'_>>) -> Option<Sid>
-        ensures value { result ≡ Grammar.context_sid self.now.policy.contexts context.now }
-        ensures known { IfSome result (IsSidOf self.now.policy.contexts) }
+    /// What the session says.
+    pub fn parts(&self) -> &SessionParts
+        ensures parts { result.now ≡ self.now }
+        ensures kept { IsSession self.now }
     {
-        context_sid(self.contexts(), context)
+        &self.parts
     }
 
     /// The declared contexts.
@@ -123,86 +125,14 @@ impl Session {
         let Session { parts } = self;
         parts
     }
-}
 
-// How a session grows, line after line.
-impl Session {
-    /// The session of a policy, with nothing there yet.
-    pub(crate) fn begun(alloc: Global, policy: PolicyText) -> Session
-        ensures { result ≡ record { policy = policy; root = None; port = None; ports = []; nodes = []; clients = []; lines = [] } }
+    /// Adds a line that runs. After `Memory` the session is as before.
+    pub(crate) fn add_line(&mut self, line: u32, run: Run) -> Result<(), Memory>
+        requires { MayLine self.old.policy.contexts self.old.clients self.old.lines (record { line = line; run = run }) }
+        ensures ok { OnOk result (self.new ≡ Grammar.with_line line run self.old) }
+        ensures err { OnErr result (self.new ≡ self.old) }
     {
-        Session {
-            parts: SessionParts {
-                policy,
-                root: None,
-                port: None,
-                ports: Rows::new(alloc),
-                nodes: Rows::new(alloc),
-                clients: Rows::new(alloc),
-                lines: Rows::new(alloc),
-            },
-        }
-    }
-
-    pub(crate) fn with_root(self, sid: Sid) -> Session
-        requires { IsSidOf self.policy.contexts sid }
-        ensures { result ≡ Grammar.with_root sid self }
-    {
-        let Session { mut parts } = self;
-        parts.root = Some(sid);
-        Session { parts }
-    }
-
-    pub(crate) fn with_initial_port(self, sid: Sid) -> Session
-        requires { IsSidOf self.policy.contexts sid }
-        ensures { result ≡ Grammar.with_initial_port sid self }
-    {
-        let Session { mut parts } = self;
-        parts.port = Some(sid);
-        Session { parts }
-    }
-
-    pub(crate) fn with_port(self, port: u32, sid: Sid) -> Result<Session, Memory>
-        requires { IsPortPlace self.policy.contexts port sid }
-        ensures { IfOk result (λ next. next ≡ Grammar.with_port port sid self) }
-    {
-        let Session { mut parts } = self;
-        parts.ports.push(LabelledPort { port, sid })?;
-        Ok(Session { parts })
-    }
-
-    pub(crate) fn with_node(
-        self,
-        path: FilePath,
-        sid: Sid,
-        bytes: Option<Piece>,
-    ) -> Result<Session, Memory>
-        requires sid { IsSidOf self.policy.contexts sid }
-        requires place { IsPlace self.nodes path }
-        requires few { length self.nodes < 4095 }
-        ensures { IfOk result (λ next. next ≡ Grammar.with_node path sid bytes self) }
-    {
-        let Session { mut parts } = self;
-        parts.nodes.push(Node { path, sid, bytes })?;
-        Ok(Session { parts })
-    }
-
-    pub(crate) fn with_client(self, name: Name, sid: Sid) -> Result<Session, Memory>
-        requires sid { IsSidOf self.policy.contexts sid }
-        requires few { length self.clients < 62 }
-        ensures { IfOk result (λ next. next ≡ Grammar.with_client name sid self) }
-    {
-        let Session { mut parts } = self;
-        parts.clients.push(ClientLine { name, sid })?;
-        Ok(Session { parts })
-    }
-
-    pub(crate) fn with_line(self, line: u32, run: Run) -> Result<Session, Memory>
-        requires { IsRun (IsSidOf self.policy.contexts) (length self.clients) run }
-        ensures { IfOk result (λ next. next ≡ Grammar.with_line line run self) }
-    {
-        let Session { mut parts } = self;
-        parts.lines.push(RunLine { line, run })?;
-        Ok(Session { parts })
+        self.parts.lines.push(RunLine { line, run })?;
+        Ok(())
     }
 }

@@ -1,255 +1,147 @@
-//! What a session line asks of the lines above it.
-
-ghost use Rattle.std.specs.Prelude.{◌≡◌, ◌<◌, Some, length, IfOk, OnOk};
-ghost use Rattle.std.specs.Bool.{OnFalse};
-ghost use Rattle.text_lines.specs.Refusals.{Gives};
+ghost use Rattle.std.specs.Prelude.{◌≡◌, true, [], OnOk, OnErr};
 ghost use Rattle.session_text.specs.Grammar;
-ghost use Rattle.port_calls.specs.Formed.{IsPort};
-ghost use Rattle.session_text.specs.Sessions.{IsPlace, IsPortPlace, IsSidOf};
+ghost use Rattle.session_text.specs.Reading;
+ghost use Rattle.session_text.specs.Sessions.{IsSidOf, MayClient, MayNode, MayPort};
 
-use crate::look_up::{has_client, has_node, has_port, is_parent_there};
-use crate::parts::Parts;
-use crate::ranges::{is_long_data, is_past_place};
-use crate::session::{ClientLine, Session};
-use crate::setup_forms::Initial;
+use crate::session::{ClientLine, Session, SessionParts};
 use file_calls::{FilePath, Node};
-use flask_sid::{ContextOf, Memory, Name, Piece, Sid, Word};
+use flask_sid::{Memory, Name, Piece, Rows, Sid};
+use policy_text::PolicyText;
+use port_calls::LabelledPort;
 use std::alloc::Global;
-use text_lines::{FaultKind, Refusal};
+use std::marker::Model;
 
-const NODE_LIMIT: usize = 4_095;
-
-const PORT_LIMIT: usize = 1_024;
-
-const CLIENT_LIMIT: usize = 62;
-
-/// A `file` line.
-#[tactic(auto, unfolding(crate::specs::Grammar::file_read))]
-pub fn file_read(
-    alloc: Global,
-    path: Parts<'_>,
-    context: ContextOf<Word<'_>>,
-    bytes: Option<Word<'_>>,
-    session: Session,
-) -> Result<Session, Refusal>
-    ensures { Gives result (Grammar.file_read path.entry context.entry bytes.entry session) }
-{
-    if is_past_node(&path, &context, session.parts().nodes.len()) || is_long_data(&bytes) {
-        return Err(Refusal::Fault(FaultKind::Limit));
-    }
-    let path = path.kept(alloc)?;
-    let sid = node_sid(&path, &context, &session)?;
-    Ok(with_file(alloc, path, sid, &bytes, session)?)
+/// What session lines said so far: a session without lines that run, and whose context an `initial` line gave.
+#[derive(Debug, Drop)]
+pub struct Setup {
+    parts: SessionParts,
+    root_given: bool,
+    port_given: bool,
 }
 
-/// The session with a file more.
-fn with_file(
-    alloc: Global,
-    path: FilePath,
-    sid: Sid,
-    bytes: &Option<Word<'_>>,
-    session: Session,
-) -> Result<Session, Memory>
-    requires sid { IsSidOf session.policy.contexts sid }
-    requires place { IsPlace session.nodes path }
-    requires few { length session.nodes < 4095 }
-    ensures { IfOk result (λ next. next ≡ Grammar.with_node path sid (Some (Grammar.data_bytes bytes.now)) session) }
-{
-    let bytes = data_bytes(alloc, bytes)?;
-    session.with_node(path, sid, Some(bytes))
+impl Model for Setup {
+    ghost use Rattle.session_text.specs.Grammar as grammar;
+    ghost use Rattle.session_text.specs.Progress.{IsSetUp};
+
+    ghost Value = { grammar.Setup };
+
+    ghost view = { λ setup. record { session = setup.parts; root_given = setup.root_given; port_given = setup.port_given } };
+
+    ghost invariant = { λ setup. IsSetUp setup.parts };
 }
 
-/// A `dir` line.
-#[tactic(auto, unfolding(crate::specs::Grammar::directory_read))]
-pub fn directory_read(
-    alloc: Global,
-    path: Parts<'_>,
-    context: ContextOf<Word<'_>>,
-    session: Session,
-) -> Result<Session, Refusal>
-    ensures { Gives result (Grammar.directory_read path.entry context.entry session) }
+/// The identifier of the first declared context.
+fn first_sid() -> Sid
+    ensures { result ≡ 1 }
 {
-    if is_past_node(&path, &context, session.parts().nodes.len()) {
-        return Err(Refusal::Fault(FaultKind::Limit));
-    }
-    let path = path.kept(alloc)?;
-    let sid = node_sid(&path, &context, &session)?;
-    Ok(session.with_node(path, sid, None)?)
+    Sid::of(1).unwrap()
 }
 
-/// The identifier of a node that is to stand at a path.
-#[tactic(auto, unfolding(crate::specs::Grammar::node_sid))]
-fn node_sid(
-    path: &FilePath,
-    context: &ContextOf<Word<'_>>,
-    session: &Session,
-) -> Result<Sid, Refusal>
-    ensures value { Gives result (Grammar.node_sid path.now context.now session.now) }
-    ensures known { IfOk result (IsSidOf session.now.policy.contexts) }
-    ensures place { OnOk result (IsPlace session.now.nodes path.now) }
-{
-    if !is_parent_there(session.parts().nodes.as_slice(), path) {
-        return Err(Refusal::Fault(FaultKind::Unknown));
-    }
-    let Some(sid) = session.sid_of(context) else {
-        return Err(Refusal::Fault(FaultKind::Undeclared));
-    };
-    if is_taken(session.parts().nodes.as_slice(), path) {
-        return Err(Refusal::Fault(FaultKind::Twice));
-    }
-    Ok(sid)
-}
-
-#[tactic(auto, unfolding(crate::specs::Grammar::is_past_node))]
-fn is_past_node(path: &Parts<'_>, context: &ContextOf<Word<'_>>, nodes: usize) -> bool
-    ensures value { result ≡ Grammar.is_past_node path.now context.now nodes }
-    ensures below { OnFalse result (nodes < 4095) }
-{
-    path.is_long() || context.is_long() || nodes >= NODE_LIMIT
-}
-
-#[tactic(auto, unfolding(crate::specs::Grammar::is_taken))]
-fn is_taken(nodes: &[Node], path: &FilePath) -> bool
-    ensures { result ≡ Grammar.is_taken nodes.now path.now }
-{
-    path.is_empty() || has_node(nodes, path)
-}
-
-#[tactic(auto, unfolding(crate::specs::Grammar::is_past_client))]
-fn is_past_client(name: &Word<'_>, context: &ContextOf<Word<'_>>, clients: usize) -> bool
-    ensures value { result ≡ Grammar.is_past_client name.now context.now clients }
-    ensures below { OnFalse result (clients < 62) }
-{
-    name.is_long() || context.is_long() || clients >= CLIENT_LIMIT
-}
-
-#[tactic(auto, unfolding(crate::specs::Grammar::is_named))]
-fn is_named(clients: &[ClientLine], name: &Word<'_>) -> bool
-    ensures { result ≡ Grammar.is_named clients.now name.now }
-{
-    name.is(b"admin") || has_client(clients, name)
-}
-
-fn data_bytes(alloc: Global, bytes: &Option<Word<'_>>) -> Result<Piece, Memory>
-    ensures { IfOk result (λ piece. piece ≡ Grammar.data_bytes bytes.now) }
-{
-    match bytes {
-        None => Ok(Piece::new(alloc)),
-        Some(word) => Piece::of(alloc, word.as_bytes()),
-    }
-}
-
-/// A `client` line.
-#[tactic(auto, unfolding(crate::specs::Grammar::client_read))]
-pub fn client_read(
-    alloc: Global,
-    name: Word<'_>,
-    context: ContextOf<Word<'_>>,
-    session: Session,
-) -> Result<Session, Refusal>
-    ensures { Gives result (Grammar.client_read name.entry context.entry session) }
-{
-    if is_past_client(&name, &context, session.parts().clients.len()) {
-        return Err(Refusal::Fault(FaultKind::Limit));
-    }
-    let sid = client_sid(&name, &context, &session)?;
-    let name = Name::of(alloc, &name)?;
-    Ok(session.with_client(name, sid)?)
-}
-
-/// The identifier of a client that is to have a name.
-#[tactic(auto, unfolding(crate::specs::Grammar::client_sid))]
-fn client_sid(
-    name: &Word<'_>,
-    context: &ContextOf<Word<'_>>,
-    session: &Session,
-) -> Result<Sid, Refusal>
-    ensures value { Gives result (Grammar.client_sid name.now context.now session.now) }
-    ensures known { IfOk result (IsSidOf session.now.policy.contexts) }
-{
-    let Some(sid) = session.sid_of(context) else {
-        return Err(Refusal::Fault(FaultKind::Undeclared));
-    };
-    if is_named(session.parts().clients.as_slice(), name) {
-        return Err(Refusal::Fault(FaultKind::Twice));
-    }
-    Ok(sid)
-}
-
-/// An `initial` line.
-#[tactic(auto, unfolding(crate::specs::Grammar::initial_read))]
-pub fn initial_read(
-    what: Initial,
-    context: ContextOf<Word<'_>>,
-    session: Session,
-) -> Result<Session, Refusal>
-    ensures { Gives result (Grammar.initial_read what context.entry session) }
-{
-    if context.is_long() {
-        return Err(Refusal::Fault(FaultKind::Limit));
-    }
-    match session.sid_of(&context) {
-        None => Err(Refusal::Fault(FaultKind::Undeclared)),
-        Some(sid) => initial_with(what, sid, session),
-    }
-}
-
-/// Whose context a declared one is to be: the root's or that of the ports, where there is none yet.
-#[tactic(auto, unfolding(crate::specs::Grammar::initial_with))]
-fn initial_with(what: Initial, sid: Sid, session: Session) -> Result<Session, Refusal>
-    requires { IsSidOf session.policy.contexts sid }
-    ensures { Gives result (Grammar.initial_with what sid session) }
-{
-    match what {
-        Initial::Root => {
-            if session.parts().root.is_some() {
-                return Err(Refusal::Fault(FaultKind::Twice));
-            }
-            Ok(session.with_root(sid))
-        }
-        Initial::Ports => {
-            if session.parts().port.is_some() {
-                return Err(Refusal::Fault(FaultKind::Twice));
-            }
-            Ok(session.with_initial_port(sid))
+impl Setup {
+    /// Above the first session line: the session of a policy, with nothing there yet.
+    pub fn begun(alloc: Global, policy: PolicyText) -> Setup
+        ensures { result ≡ Reading.setup_of_policy policy }
+    {
+        let _parts = policy.parts();
+        Setup {
+            parts: SessionParts {
+                policy,
+                root: first_sid(),
+                port: first_sid(),
+                ports: Rows::new(alloc),
+                audit: false,
+                nodes: Rows::new(alloc),
+                clients: Rows::new(alloc),
+                lines: Rows::new(alloc),
+            },
+            root_given: false,
+            port_given: false,
         }
     }
+
+    /// What was said so far.
+    pub fn parts(&self) -> &SessionParts
+        ensures { result.now ≡ self.now.session }
+    {
+        &self.parts
+    }
+
+    /// Whether an `initial root` line was read.
+    pub fn is_root_given(&self) -> bool
+        ensures { result ≡ self.now.root_given }
+    {
+        self.root_given
+    }
+
+    /// Whether an `initial port` line was read.
+    pub fn is_port_given(&self) -> bool
+        ensures { result ≡ self.now.port_given }
+    {
+        self.port_given
+    }
+
+    /// The session, below its last session line.
+    pub fn finish(self) -> Session
+        ensures value { result ≡ self.session }
+        ensures idle { result.lines ≡ [] }
+    {
+        let Setup {
+            parts,
+            root_given: _,
+            port_given: _,
+        } = self;
+        Session::of(parts)
+    }
 }
 
-/// A `port` line.
-#[tactic(auto, unfolding(crate::specs::Grammar::port_read))]
-pub fn port_read(
-    number: u64,
-    context: ContextOf<Word<'_>>,
-    session: Session,
-) -> Result<Session, Refusal>
-    ensures { Gives result (Grammar.port_read number context.entry session) }
-{
-    if is_past_port_line(number, &context, session.parts().ports.len()) {
-        return Err(Refusal::Fault(FaultKind::Limit));
+// How a session grows, one session line after the other. After `Memory` it is as before.
+impl Setup {
+    pub fn give_root(&mut self, sid: Sid)
+        requires { IsSidOf self.old.session.policy.contexts sid }
+        ensures { self.new ≡ record { session = Grammar.with_root sid self.old.session; root_given = true; port_given = self.old.port_given } }
+    {
+        self.parts.root = sid;
+        self.root_given = true;
     }
-    match session.sid_of(&context) {
-        None => Err(Refusal::Fault(FaultKind::Undeclared)),
-        Some(sid) => port_with(number as u32, sid, session),
-    }
-}
 
-#[tactic(auto, unfolding(crate::specs::Grammar::is_past_port_line))]
-fn is_past_port_line(number: u64, context: &ContextOf<Word<'_>>, ports: usize) -> bool
-    ensures value { result ≡ Grammar.is_past_port_line number context.now ports }
-    ensures within { OnFalse result (IsPort number) }
-{
-    is_past_place(number) || context.is_long() || ports >= PORT_LIMIT
-}
-
-/// A declared context is to be that of a port, where it has none of its own yet.
-#[tactic(auto, unfolding(crate::specs::Grammar::port_with))]
-fn port_with(number: u32, sid: Sid, session: Session) -> Result<Session, Refusal>
-    requires { IsPortPlace session.policy.contexts number sid }
-    ensures { Gives result (Grammar.port_with number sid session) }
-{
-    if has_port(session.parts().ports.as_slice(), number) {
-        return Err(Refusal::Fault(FaultKind::Twice));
+    pub fn give_port(&mut self, sid: Sid)
+        requires { IsSidOf self.old.session.policy.contexts sid }
+        ensures { self.new ≡ record { session = Grammar.with_initial_port sid self.old.session; root_given = self.old.root_given; port_given = true } }
+    {
+        self.parts.port = sid;
+        self.port_given = true;
     }
-    Ok(session.with_port(number, sid)?)
+
+    pub fn ask_audit(&mut self)
+        ensures { self.new ≡ Grammar.set_up self.old (Grammar.with_audit self.old.session) }
+    {
+        self.parts.audit = true;
+    }
+
+    pub fn add_port(&mut self, port: u32, sid: Sid) -> Result<(), Memory>
+        requires { MayPort self.old.session.policy.contexts self.old.session.ports (record { port = port; sid = sid }) }
+        ensures ok { OnOk result (self.new ≡ Grammar.set_up self.old (Grammar.with_port port sid self.old.session)) }
+        ensures err { OnErr result (self.new ≡ self.old) }
+    {
+        self.parts.ports.push(LabelledPort { port, sid })?;
+        Ok(())
+    }
+
+    pub fn add_node(&mut self, path: FilePath, sid: Sid, bytes: Option<Piece>) -> Result<(), Memory>
+        requires { MayNode self.old.session.policy.contexts self.old.session.nodes (record { path = path; sid = sid; bytes = bytes }) }
+        ensures ok { OnOk result (self.new ≡ Grammar.set_up self.old (Grammar.with_node path sid bytes self.old.session)) }
+        ensures err { OnErr result (self.new ≡ self.old) }
+    {
+        self.parts.nodes.push(Node { path, sid, bytes })?;
+        Ok(())
+    }
+
+    pub fn add_client(&mut self, name: Name, sid: Sid) -> Result<(), Memory>
+        requires { MayClient self.old.session.policy.contexts self.old.session.clients (record { name = name; sid = sid }) }
+        ensures ok { OnOk result (self.new ≡ Grammar.set_up self.old (Grammar.with_client name sid self.old.session)) }
+        ensures err { OnErr result (self.new ≡ self.old) }
+    {
+        self.parts.clients.push(ClientLine { name, sid })?;
+        Ok(())
+    }
 }

@@ -22,8 +22,6 @@ pub enum FaultKind {
     Twice,
     /// The text ends too early. The line is the one below the last.
     Ended,
-    /// The line has no fault, and its effect is not built yet.
-    Unbuilt,
 }
 
 /// Why one line is refused.

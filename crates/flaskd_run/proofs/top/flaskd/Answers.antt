@@ -1,21 +1,21 @@
-use Rattle.std.proofs.Common.{arith, sym, ◌∙◌, ◌≡◌, true, false}
-use Rattle.std.proofs.lemmas.Bool.Decides.{nat_tests}
-use Rattle.flaskd_run.specs.Top.{is_large}
-use Rattle.flaskd_run.proofs.TopLemmas.{usage_ran, large_ran, served_ran}
+use Rattle.std.proofs.Common.{◌≡◌, Some, sym, ap, ◌∙◌}
+use Rattle.command_line.specs.Commands.{command_of}
+use Rattle.command_line.specs.declared.command.Command.TheVariants as command
+use Rattle.flaskd_run.proofs.TopLemmas.{memory_ran, usage_ran, made_ran}
 use Rattle.flaskd_run.proofs.top.flaskd.Goals as goal
 
-pub returns-then-not-is_command-clause-ran : goal.returns-then-not-is_command-clause-ran
-returns-then-not-is_command-clause-ran g c = usage_ran c.args.words.now _ _ (sym c.is_command.ensures ∙ c.if-not-is_command.true)
+pub returns-in_default-clause-ran : goal.returns-in_default-clause-ran
+returns-in_default-clause-ran g c = memory_ran (command_of c.args.words.now) (g.S.Source.left c.args.source.now) (g.K.Sink.written c.args.sink.now)
 
-pub returns-then-len-gt-INPUT_LIMIT-clause-ran : goal.returns-then-len-gt-INPUT_LIMIT-clause-ran
-returns-then-len-gt-INPUT_LIMIT-clause-ran g c =
-    let bytes = c.read_all.new.bytes.items in
-    let large : is_large bytes ≡ true = grind (arith, nat_tests) in
-    large_ran c.args.words.now _ _ _ bytes (sym c.is_command.ensures ∙ c.if-not-is_command.false) large c.in-Ok.ensures.takes (omega (arith, c.in-Ok.ensures.bounded))
+pub returns-in-None-clause-ran : goal.returns-in-None-clause-ran
+returns-in-None-clause-ran g c =
+    usage_ran (command_of c.args.words.now) (g.S.Source.left c.args.source.now) (g.K.Sink.written c.args.sink.now) (sym c.in-Ok.ensures.exact ∙ c.in-None.is)
 
-pub returns-clause-ran : goal.returns-clause-ran
-returns-clause-ran g c =
-    let bytes = c.read_all.new.bytes.items in
-    let small : is_large bytes ≡ false = grind (arith, nat_tests) in
-    served_ran c.serve.result c.args.words.now _ _ _ _ bytes (sym c.is_command.ensures ∙ c.if-not-is_command.false) small c.in-Ok.ensures.takes (omega (arith, c.in-Ok.ensures.bounded))
-    (c.in-Ok.ensures.whole (omega arith)) (rw c.as_slice.ensures.value at c.serve.ensures.served)
+pub returns-in-Some-Generate-clause-ran : goal.returns-in-Some-Generate-clause-ran
+returns-in-Some-Generate-clause-ran g c =
+    let asked : command_of c.args.words.now ≡ Some c.in-Some-Generate.field-0 = sym c.in-Ok.ensures.exact ∙ c.in-Some-Generate.is in
+    let numbers : c.in-Some-Generate.field-0 ≡ command.Generate c.in-Some-Generate.seed c.in-Some-Generate.clients c.in-Some-Generate.lines = rw c.in-Some-Generate.is at c.in-Some-Generate.field-0-is in
+    let found : command_of c.args.words.now ≡ Some (command.Generate c.in-Some-Generate.seed c.in-Some-Generate.clients c.in-Some-Generate.lines) = asked ∙ ap Some numbers in
+    rw found
+    (made_ran c.generate.result c.in-Some-Generate.seed c.in-Some-Generate.clients c.in-Some-Generate.lines (g.S.Source.left c.args.source.now) (g.K.Sink.written c.args.sink.now)
+    (g.K.Sink.written c.generate.new.sink) c.generate.ensures.served)

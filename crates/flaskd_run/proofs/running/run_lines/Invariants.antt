@@ -1,0 +1,22 @@
+use Rattle.std.proofs.Common.{◌≡◌, ◌≤◌, length}
+use Rattle.std.specs.Vec.Iter.{into_iter_items, into_iter_len}
+use Rattle.flaskd_run.specs.Serial.{lines_text, lines_audit}
+use Rattle.flaskd_run.specs.Underway.{IsLeft, IsLogged}
+use Rattle.flaskd_run.specs.Writing.{IsOffered}
+use Rattle.flaskd_run.proofs.running.run_lines.Given as goal
+
+abbrev pub invariant-lines : goal.invariant-lines
+invariant-lines g l =
+    record {
+      written : IsOffered (g.K.Sink.written l.fn.sink) (g.K.Sink.written l.sink)
+          (lines_text l.setting.contexts.now (g.D.Decider.decides l.fn.desk.decider) l.setting.clients.now l.fn.desk.day l.fn.lines.items)
+          (lines_text l.setting.contexts.now (g.D.Decider.decides l.fn.desk.decider) l.setting.clients.now l.desk.day (into_iter_items l.line-iterator));
+      later : g.K.Sink.faults l.fn.sink ≤ g.K.Sink.faults l.sink;
+      decider : l.desk.decider ≡ l.fn.desk.decider;
+      left : IsLeft (g.D.Decider.decides l.fn.desk.decider) (length l.setting.clients.now) l.fn.desk.day l.desk.day l.fn.lines.items (into_iter_items l.line-iterator);
+      counted : into_iter_len l.line-iterator ≡ length (into_iter_items l.line-iterator);
+      logged : IsLogged l.fn.log l.log
+          (lines_audit l.setting.audited l.setting.policy.now l.setting.contexts.now (g.D.Decider.decides l.fn.desk.decider) l.fn.desk.day l.fn.lines.items)
+          (lines_audit l.setting.audited l.setting.policy.now l.setting.contexts.now (g.D.Decider.decides l.fn.desk.decider) l.desk.day (into_iter_items l.line-iterator));
+      kept : length l.log ≡ length l.fn.log;
+    }

@@ -1,0 +1,37 @@
+-- A run on its way, and the log of its audit lines.
+use Rattle.std.specs.Prelude.{◌≡◌, ℕ, ◌+◌, ◌<◌, ◌^◌, IsTrue, List, [], ◌∷◌, ◌++◌, length, All}
+use Rattle.std.specs.List.{flat_map}
+use Rattle.flask_sid.specs.declared.context.ContextOf.{ContextOf}
+use Rattle.access_vectors.specs.Decisions.{Decisions}
+use Rattle.audit_log.specs.Logs.{of_client, Gains}
+use Rattle.audit_log.specs.Texts.{line_text as audit_line_text}
+use Rattle.audit_log.specs.declared.audited.AuditLine.{AuditLine}
+use Rattle.session_text.specs.Sessions.{IsRun}
+use Rattle.session_text.specs.declared.session.ClientLine.{ClientLine}
+use Rattle.session_text.specs.declared.session.RunLine.{RunLine}
+use Rattle.session_desk.specs.Days.{Day}
+use Rattle.session_desk.specs.Desks.{HasClients, IsInStep}
+use Rattle.flaskd_run.specs.Serial.{day_below}
+
+-- lines may run from this day on: each names what is known and one of so many clients, the managers are in step, and the counts
+-- have room for the lines
+pub record MayRun (d : Decisions) (clients : ℕ) (day : Day) (lines : List RunLine) : Type 0 where
+  pub formed : All (λ line. IsRun (λ sid. IsTrue (d.known sid)) clients line.run) lines
+  pub clients_are : HasClients clients day
+  pub in_step : IsInStep day
+  pub calls : day.calls + length lines < 2 ^ 64
+  pub changes : day.changes + length lines < 2 ^ 64
+
+-- of all lines these are left, and from this day on they lead where all lead
+pub record IsLeft (d : Decisions) (clients : ℕ) (start day : Day) (all left : List RunLine) : Type 0 where
+  pub may : MayRun d clients day left
+  pub leads : day_below d day left ≡ day_below d start all
+
+-- a log has gained a front of these audit lines, and the rest is still to come
+abbrev pub IsLogged : List (List AuditLine) → List (List AuditLine) → List AuditLine → List AuditLine → Type 0
+IsLogged old new all rest = (front : List AuditLine) × (front ++ rest ≡ all) × Gains old new front
+
+-- what is printed of a log for clients from number n on
+abbrev pub logged_text : List (ContextOf (List ℕ)) → List (List AuditLine) → ℕ → List ClientLine → List ℕ
+logged_text contexts log n [] = []
+logged_text contexts log n (client ∷ clients) = flat_map (audit_line_text contexts client.name) (of_client log n) ++ logged_text contexts log (n + 1) clients

@@ -1,0 +1,7 @@
+pub mod PathForms
+pub mod Arguments
+pub mod CallForms
+pub mod Ranges
+pub mod SetupForms
+pub mod RunForms
+pub mod ArgumentForms

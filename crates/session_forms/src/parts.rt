@@ -1,0 +1,189 @@
+ghost use Rattle.std.specs.Prelude.{◌≡◌, [], ◌∷◌, nat_lt, length, IfOk, MatchOption};
+ghost use Rattle.std.specs.List.{list_all, list_any};
+ghost use Rattle.flask_sid.specs.Names;
+ghost use Rattle.file_calls.specs.Formed;
+ghost use Rattle.session_forms.specs.PathForms;
+ghost use Rattle.session_forms.specs.Arguments;
+
+use file_calls::FilePath;
+use flask_sid::{Memory, Piece, Word, cut};
+use std::alloc::Global;
+use std::marker::Model;
+
+/// The greatest number of parts of a path.
+const PART_LIMIT: usize = 16;
+
+/// The parts of a path that are still to come, by reference to its text. Contracts see their list.
+#[derive(Debug)]
+pub struct Parts<'a> {
+    rest: Option<&'a [u8]>,
+}
+
+impl<'a> Model for Parts<'a> {
+    ghost use Rattle.std.specs.Prelude.{List, ℕ};
+    ghost use Rattle.std.specs.Option.{option_map};
+    ghost use Rattle.session_forms.specs.PathForms.{parts_left};
+
+    ghost Value = { List (List ℕ) };
+
+    ghost view = { λ parts. parts_left (option_map (λ r. r.now) parts.rest) };
+}
+
+impl Drop for Parts<'_> {
+    fn drop(self) {
+        let Parts { rest: _ } = self;
+    }
+}
+
+impl<'a> Parts<'a> {
+    /// The parts of what stands behind the first `/` of a path.
+    fn behind(bytes: &'a [u8]) -> Parts<'a>
+        ensures { result ≡ PathForms.parts_behind bytes.now }
+    {
+        match bytes {
+            [] => Parts { rest: None },
+            [_first, ..] => Parts { rest: Some(bytes) },
+        }
+    }
+
+    /// The same parts again.
+    pub fn again(&self) -> Parts<'a>
+        ensures { result ≡ self.now }
+    {
+        Parts { rest: self.rest }
+    }
+
+    /// The next part, or `None` where none is left.
+    fn next(&mut self) -> Option<&'a [u8]>
+        ensures { MatchOption result ((self.old ≡ []) × (self.new ≡ []))
+            (λ part. self.old ≡ part.now ∷ self.new) }
+    {
+        match self.rest {
+            None => None,
+            Some(rest) => match cut(rest, b'/') {
+                None => {
+                    self.rest = None;
+                    Some(rest)
+                }
+                Some((part, more)) => {
+                    self.rest = Some(more);
+                    Some(part)
+                }
+            },
+        }
+    }
+
+    /// Whether each part would be a part of a path but for its length.
+    fn are_part_forms(&self) -> bool
+        ensures { result ≡ list_all PathForms.is_part_form self.now }
+    {
+        let mut parts = self.again();
+        'parts: while let Some(part) = parts.next() {
+            if !is_part_form(part) {
+                return false;
+            }
+        }
+        true
+    }
+
+    /// Whether the path is the root's.
+    pub fn is_root(&self) -> bool
+        ensures { result ≡ Arguments.is_root self.now }
+    {
+        let mut parts = self.again();
+        parts.next().is_none()
+    }
+
+    /// Whether there are more parts than a path may have, or a part is too long.
+    #[tactic(auto, unfolding(crate::specs::PathForms::is_long_path))]
+    pub fn is_long(&self) -> bool
+        ensures { result ≡ PathForms.is_long_path self.now }
+    {
+        self.are_many() || self.has_long_part()
+    }
+
+    /// Whether there are more parts than a path may have.
+    fn are_many(&self) -> bool
+        ensures { result ≡ nat_lt 16 (length self.now) }
+    {
+        let mut parts = self.again();
+        for at in 0..PART_LIMIT {
+            let Some(_part) = parts.next() else {
+                return false;
+            };
+        }
+        match parts.next() {
+            None => false,
+            Some(_part) => true,
+        }
+    }
+
+    fn has_long_part(&self) -> bool
+        ensures { result ≡ list_any Names.is_long self.now }
+    {
+        let mut parts = self.again();
+        'parts: while let Some(part) = parts.next() {
+            if Word::new(part).is_long() {
+                return true;
+            }
+        }
+        false
+    }
+
+    /// A kept copy of the path.
+    pub fn kept(&self, alloc: Global) -> Result<FilePath, Memory>
+        ensures { IfOk result (λ path. path ≡ self.now) }
+    {
+        let mut path = FilePath::new(alloc);
+        let mut parts = self.again();
+        'parts: while let Some(part) = parts.next() {
+            path.push(Piece::of(alloc, part)?)?;
+        }
+        Ok(path)
+    }
+}
+
+/// The parts of a word that is a path but for its length and theirs, or `None` where it is none.
+#[tactic(auto, unfolding(crate::specs::PathForms::path_form))]
+pub fn path_form<'a>(word: &Word<'a>) -> Option<Parts<'a>>
+    ensures { result ≡ PathForms.path_form word.now }
+{
+    match word.as_bytes() {
+        [] => None,
+        [first, rest @ ..] => {
+            if *first != b'/' {
+                return None;
+            }
+            let parts = Parts::behind(rest);
+            if parts.are_part_forms() {
+                Some(parts)
+            } else {
+                None
+            }
+        }
+    }
+}
+
+#[tactic(auto, unfolding(crate::specs::PathForms::is_part_form))]
+fn is_part_form(part: &[u8]) -> bool
+    ensures { result ≡ PathForms.is_part_form part.now }
+{
+    !part.is_empty() && are_part_bytes(part) && part != b".".as_slice() && part != b"..".as_slice()
+}
+
+fn are_part_bytes(part: &[u8]) -> bool
+    ensures { result ≡ list_all Formed.is_path_byte part.now }
+{
+    part.iter().all(|b| is_path_byte(*b))
+}
+
+fn is_path_byte(b: u8) -> bool
+    ensures { result ≡ Formed.is_path_byte b }
+{
+    b.is_ascii_lowercase()
+        || b.is_ascii_uppercase()
+        || b.is_ascii_digit()
+        || b == b'.'
+        || b == b'_'
+        || b == b'-'
+}

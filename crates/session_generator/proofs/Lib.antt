@@ -1,0 +1,6 @@
+pub mod PolicyLaws
+pub mod NumberedLaws
+pub mod ClientLaws
+pub mod RunLaws
+pub mod SessionLaws
+pub mod ExampleLaws

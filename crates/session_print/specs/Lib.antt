@@ -1,0 +1,4 @@
+pub mod Words
+pub mod CallWords
+pub mod Printed
+pub mod Same

@@ -1,0 +1,201 @@
+//! Puts calls, each behind its client and its manager: one function for each shape of arguments.
+
+ghost use Rattle.std.specs.Prelude.{◌≡◌, ◌++◌, [], ◌∷◌, OnOk, decimal, codes};
+ghost use Rattle.std.specs.List.{flat_map};
+ghost use Rattle.text_print.specs.Printed.{behind};
+ghost use Rattle.session_print.specs.Words;
+ghost use Rattle.session_print.specs.CallWords;
+
+use crate::words::{client_name, put_bind_mode, put_connect_mode, put_label, put_mode, put_path};
+use access_vectors::Vector;
+use file_calls::{FileCall, FilePath};
+use flask_sid::{Memory, Piece, Sid};
+use policy_text::ContextLine;
+use port_calls::PortCall;
+use process_calls::ProcessCall;
+use session_text::ClientLine;
+use text_print::{put_numeral, put_word};
+
+/// Puts a call of the file manager.
+#[tactic(auto, unfolding(crate::specs::CallWords::file_words))]
+pub fn put_file_call(
+    out: &mut Piece,
+    contexts: &[ContextLine],
+    clients: &[ClientLine],
+    call: &FileCall,
+) -> Result<(), Memory>
+    ensures { OnOk result (out.new ≡ out.old ++ flat_map behind (CallWords.file_words contexts.now clients.now call.now)) }
+{
+    match call {
+        FileCall::Mkdir { path } => put_on_path(out, b"mkdir", path),
+        FileCall::Create { path } => put_on_path(out, b"create", path),
+        FileCall::OpenFile { slot, path, mode } => put_open(out, *slot, path, *mode),
+        FileCall::ReadFile {
+            slot,
+            offset,
+            length,
+        } => put_read(out, *slot, *offset, *length),
+        FileCall::WriteFile {
+            slot,
+            offset,
+            piece,
+        } => put_write(out, *slot, *offset, piece),
+        FileCall::AppendFile { slot, piece } => {
+            put_with_datum(out, b"append", u32::from(*slot), piece)
+        }
+        FileCall::CloseFile { slot } => put_with_number(out, b"close", u32::from(*slot)),
+        FileCall::Unlink { path } => put_on_path(out, b"unlink", path),
+        FileCall::List { path, skip } => put_list(out, path, *skip),
+        FileCall::StatFile { path } => put_on_path(out, b"stat", path),
+        FileCall::Relabel { path, sid } => put_relabel(out, contexts, path, *sid),
+        FileCall::Give {
+            slot,
+            client,
+            target,
+        } => put_give(out, clients, *slot, *client, *target),
+    }
+}
+
+/// Puts a call of the process manager.
+#[tactic(auto, unfolding(crate::specs::CallWords::process_words))]
+pub fn put_process_call(
+    out: &mut Piece,
+    contexts: &[ContextLine],
+    call: &ProcessCall,
+) -> Result<(), Memory>
+    ensures { OnOk result (out.new ≡ out.old ++ flat_map behind (CallWords.process_words contexts.now call.now)) }
+{
+    match *call {
+        ProcessCall::Fork { pid } => put_with_number(out, b"fork", pid),
+        ProcessCall::Exec { pid, sid } => put_exec(out, contexts, pid, sid),
+        ProcessCall::Signal { pid, number } => put_with_numbers(out, b"signal", pid, number),
+        ProcessCall::Exit { pid, code } => put_with_numbers(out, b"exit", pid, code),
+        ProcessCall::Wait { pid } => put_with_number(out, b"wait", pid),
+        ProcessCall::Attach { slot, pid } => {
+            put_with_numbers(out, b"attach", u32::from(slot), pid)
+        }
+        ProcessCall::Peek { slot } => put_with_number(out, b"peek", u32::from(slot)),
+        ProcessCall::Poke { slot, value } => {
+            put_with_numbers(out, b"poke", u32::from(slot), value)
+        }
+        ProcessCall::Detach { slot } => put_with_number(out, b"detach", u32::from(slot)),
+        ProcessCall::StatProcess { pid } => put_with_number(out, b"stat", pid),
+    }
+}
+
+/// Puts a call of the port manager.
+#[tactic(auto, unfolding(crate::specs::CallWords::port_words))]
+pub fn put_port_call(out: &mut Piece, call: &PortCall) -> Result<(), Memory>
+    ensures { OnOk result (out.new ≡ out.old ++ flat_map behind (CallWords.port_words call.now)) }
+{
+    match call {
+        PortCall::Bind { slot, port, mode } => {
+            put_with_numbers(out, b"bind", u32::from(*slot), *port)?;
+            put_bind_mode(out, *mode)
+        }
+        PortCall::Recv { slot } => put_with_number(out, b"recv", u32::from(*slot)),
+        PortCall::Connect { slot, port, mode } => {
+            put_with_numbers(out, b"connect", u32::from(*slot), *port)?;
+            put_connect_mode(out, *mode)
+        }
+        PortCall::Push { slot, piece } => put_with_datum(out, b"push", u32::from(*slot), piece),
+        PortCall::Send { port, piece } => put_with_datum(out, b"send", *port, piece),
+        PortCall::Unbind { slot } => put_with_number(out, b"unbind", u32::from(*slot)),
+        PortCall::StatPort { port } => put_with_number(out, b"stat", *port),
+    }
+}
+
+fn put_on_path(out: &mut Piece, call: &[u8], path: &FilePath) -> Result<(), Memory>
+    ensures { OnOk result (out.new ≡ out.old ++ flat_map behind (call.now ∷ Words.path_word path.now ∷ [])) }
+{
+    put_word(out, call)?;
+    put_path(out, path)
+}
+
+fn put_with_number(out: &mut Piece, call: &[u8], number: u32) -> Result<(), Memory>
+    ensures { OnOk result (out.new ≡ out.old ++ flat_map behind (call.now ∷ decimal number ∷ [])) }
+{
+    put_word(out, call)?;
+    put_numeral(out, u64::from(number))
+}
+
+fn put_with_numbers(out: &mut Piece, call: &[u8], first: u32, second: u32) -> Result<(), Memory>
+    ensures { OnOk result (out.new ≡ out.old ++ flat_map behind (call.now ∷ decimal first ∷ decimal second ∷ [])) }
+{
+    put_with_number(out, call, first)?;
+    put_numeral(out, u64::from(second))
+}
+
+fn put_with_datum(out: &mut Piece, call: &[u8], number: u32, datum: &Piece) -> Result<(), Memory>
+    ensures { OnOk result (out.new ≡ out.old ++ flat_map behind (call.now ∷ decimal number ∷ datum.now ∷ [])) }
+{
+    put_with_number(out, call, number)?;
+    put_word(out, datum.as_bytes())
+}
+
+fn put_open(out: &mut Piece, slot: u8, path: &FilePath, mode: Vector) -> Result<(), Memory>
+    ensures { OnOk result (out.new ≡ out.old ++ flat_map behind
+        (codes "open" ∷ decimal slot ∷ Words.path_word path.now ∷ Words.mode_word mode ∷ [])) }
+{
+    put_with_number(out, b"open", u32::from(slot))?;
+    put_path(out, path)?;
+    put_mode(out, mode)
+}
+
+fn put_read(out: &mut Piece, slot: u8, offset: u32, length: u32) -> Result<(), Memory>
+    ensures { OnOk result (out.new ≡ out.old ++ flat_map behind
+        (codes "read" ∷ decimal slot ∷ decimal offset ∷ decimal length ∷ [])) }
+{
+    put_with_numbers(out, b"read", u32::from(slot), offset)?;
+    put_numeral(out, u64::from(length))
+}
+
+fn put_write(out: &mut Piece, slot: u8, offset: u32, datum: &Piece) -> Result<(), Memory>
+    ensures { OnOk result (out.new ≡ out.old ++ flat_map behind
+        (codes "write" ∷ decimal slot ∷ decimal offset ∷ datum.now ∷ [])) }
+{
+    put_with_numbers(out, b"write", u32::from(slot), offset)?;
+    put_word(out, datum.as_bytes())
+}
+
+fn put_list(out: &mut Piece, path: &FilePath, skip: u32) -> Result<(), Memory>
+    ensures { OnOk result (out.new ≡ out.old ++ flat_map behind (codes "list" ∷ Words.path_word path.now ∷ decimal skip ∷ [])) }
+{
+    put_on_path(out, b"list", path)?;
+    put_numeral(out, u64::from(skip))
+}
+
+fn put_relabel(
+    out: &mut Piece,
+    contexts: &[ContextLine],
+    path: &FilePath,
+    sid: Sid,
+) -> Result<(), Memory>
+    ensures { OnOk result (out.new ≡ out.old ++ flat_map behind
+        (codes "relabel" ∷ Words.path_word path.now ∷ Words.context_word contexts.now sid ∷ [])) }
+{
+    put_on_path(out, b"relabel", path)?;
+    put_label(out, contexts, sid)
+}
+
+fn put_give(
+    out: &mut Piece,
+    clients: &[ClientLine],
+    slot: u8,
+    client: u8,
+    target: u8,
+) -> Result<(), Memory>
+    ensures { OnOk result (out.new ≡ out.old ++ flat_map behind
+        (codes "give" ∷ decimal slot ∷ Words.client_word clients.now client ∷ decimal target ∷ [])) }
+{
+    put_with_number(out, b"give", u32::from(slot))?;
+    put_word(out, client_name(clients, client))?;
+    put_numeral(out, u64::from(target))
+}
+
+fn put_exec(out: &mut Piece, contexts: &[ContextLine], pid: u32, sid: Sid) -> Result<(), Memory>
+    ensures { OnOk result (out.new ≡ out.old ++ flat_map behind (codes "exec" ∷ decimal pid ∷ Words.context_word contexts.now sid ∷ [])) }
+{
+    put_with_number(out, b"exec", pid)?;
+    put_label(out, contexts, sid)
+}

@@ -1,0 +1,136 @@
+//! Puts the session lines: what is there at the start.
+
+ghost use Rattle.std.specs.Prelude.{◌≡◌, ◌++◌, [], ◌∷◌, OnOk};
+ghost use Rattle.std.specs.List.{flat_map};
+ghost use Rattle.text_print.specs.Printed.{behind, ended, text_of};
+ghost use Rattle.policy_print.specs.Printed.{texts_of};
+ghost use Rattle.session_print.specs.Printed;
+
+use crate::words::{put_label, put_path};
+use file_calls::Node;
+use flask_sid::{Memory, Piece, Sid};
+use policy_text::ContextLine;
+use port_calls::LabelledPort;
+use session_text::{ClientLine, SessionParts};
+use text_print::{put_numeral, put_word};
+
+/// Puts the session lines of a session.
+pub fn put_setup(out: &mut Piece, session: &SessionParts) -> Result<(), Memory>
+    ensures { OnOk result (out.new ≡ out.old ++ text_of (Printed.setup_lines session.now)) }
+{
+    let contexts = session.policy.parts().contexts.as_slice();
+    put_initial(out, contexts, b"root", session.root)?;
+    put_initial(out, contexts, b"port", session.port)?;
+    put_ports(out, contexts, session.ports.as_slice())?;
+    put_audit(out, session.audit)?;
+    put_nodes(out, contexts, session.nodes.as_slice())?;
+    put_clients(out, contexts, session.clients.as_slice())
+}
+
+// An `initial` line: whose context, and which.
+fn put_initial(
+    out: &mut Piece,
+    contexts: &[ContextLine],
+    what: &[u8],
+    sid: Sid,
+) -> Result<(), Memory>
+    ensures { OnOk result (out.new ≡ out.old ++ ended (Printed.initial_words contexts.now what.now sid)) }
+{
+    out.extend(b"initial")?;
+    put_word(out, what)?;
+    put_label(out, contexts, sid)?;
+    out.push(b'\n')
+}
+
+fn put_ports(
+    out: &mut Piece,
+    contexts: &[ContextLine],
+    ports: &[LabelledPort],
+) -> Result<(), Memory>
+    ensures { OnOk result (out.new ≡ out.old ++ texts_of (Printed.labelled_port_words contexts.now) ports.now) }
+{
+    'ports: for line in ports {
+        put_port(out, contexts, line)?;
+    }
+    Ok(())
+}
+
+fn put_port(out: &mut Piece, contexts: &[ContextLine], line: &LabelledPort) -> Result<(), Memory>
+    ensures { OnOk result (out.new ≡ out.old ++ ended (Printed.labelled_port_words contexts.now line.now)) }
+{
+    out.extend(b"port")?;
+    put_numeral(out, u64::from(line.port))?;
+    put_label(out, contexts, line.sid)?;
+    out.push(b'\n')
+}
+
+fn put_audit(out: &mut Piece, audit: bool) -> Result<(), Memory>
+    ensures { OnOk result (out.new ≡ out.old ++ text_of (Printed.audit_lines audit)) }
+{
+    if audit {
+        return out.extend(b"audit\n");
+    }
+    Ok(())
+}
+
+fn put_nodes(out: &mut Piece, contexts: &[ContextLine], nodes: &[Node]) -> Result<(), Memory>
+    ensures { OnOk result (out.new ≡ out.old ++ texts_of (Printed.node_words contexts.now) nodes.now) }
+{
+    'nodes: for node in nodes {
+        put_node(out, contexts, node)?;
+    }
+    Ok(())
+}
+
+fn put_node(out: &mut Piece, contexts: &[ContextLine], node: &Node) -> Result<(), Memory>
+    ensures { OnOk result (out.new ≡ out.old ++ ended (Printed.node_words contexts.now node.now)) }
+{
+    put_kind(out, &node.bytes)?;
+    put_path(out, &node.path)?;
+    put_label(out, contexts, node.sid)?;
+    put_datum(out, &node.bytes)?;
+    out.push(b'\n')
+}
+
+fn put_kind(out: &mut Piece, bytes: &Option<Piece>) -> Result<(), Memory>
+    ensures { OnOk result (out.new ≡ out.old ++ Printed.node_word bytes.now) }
+{
+    match bytes {
+        None => out.extend(b"dir"),
+        Some(_) => out.extend(b"file"),
+    }
+}
+
+fn put_datum(out: &mut Piece, bytes: &Option<Piece>) -> Result<(), Memory>
+    ensures { OnOk result (out.new ≡ out.old ++ flat_map behind (Printed.datum_words bytes.now)) }
+{
+    match bytes {
+        None => Ok(()),
+        Some(datum) => match datum.as_bytes() {
+            [] => Ok(()),
+            bytes => put_word(out, bytes),
+        },
+    }
+}
+
+fn put_clients(
+    out: &mut Piece,
+    contexts: &[ContextLine],
+    clients: &[ClientLine],
+) -> Result<(), Memory>
+    ensures { OnOk result (out.new ≡ out.old ++ texts_of (Printed.client_words contexts.now) clients.now) }
+{
+    'clients: for client in clients {
+        put_client(out, contexts, client)?;
+    }
+    Ok(())
+}
+
+fn put_client(out: &mut Piece, contexts: &[ContextLine], client: &ClientLine) -> Result<(), Memory>
+    ensures { OnOk result (out.new ≡ out.old ++ ended (Printed.client_words contexts.now client.now)) }
+{
+    out.extend(b"client")?;
+    put_word(out, client.name.as_bytes())?;
+    put_label(out, contexts, client.sid)?;
+    out.push(b'\n')
+}

@@ -1,0 +1,5 @@
+use Rattle.std.proofs.Common.{arith}
+use Rattle.session_text.proofs.run_lines.update_read.Goals as goal
+
+pub add_line-requires : goal.add_line-requires
+add_line-requires c = record { below = c.requires; run = omega arith; written = tt; turn = tt }
