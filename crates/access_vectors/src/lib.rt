@@ -25,6 +25,3 @@ pub use plainly::Plainly;
 pub use questions::Questions;
 pub use steps::Steps;
 pub use vector::Vector;
-
-#[cfg(test)]
-mod tests;

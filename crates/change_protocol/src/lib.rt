@@ -8,6 +8,3 @@ mod rounds;
 
 pub use answers::{AckAll, NotifyAllFault, Said};
 pub use coordinator::Coordinator;
-
-#[cfg(test)]
-mod tests;

@@ -33,6 +33,3 @@ pub fn command_of(alloc: Global, words: &[Word<'_>]) -> Result<Option<Command>, 
         Some(texts) => parsed(alloc, texts.as_slice()),
     }
 }
-
-#[cfg(test)]
-mod tests;

@@ -15,6 +15,3 @@ mod uses;
 pub use board_core::{BoardCore, new};
 pub use call::{BoardCall, BoardReply};
 pub use opening::BoardOpening;
-
-#[cfg(test)]
-mod tests;

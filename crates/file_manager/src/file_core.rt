@@ -8,20 +8,11 @@ ghost use Rattle.file_calls.specs.Openings.{AreNodes, IsOpening};
 ghost use Rattle.file_calls.specs.States.{opened_with};
 ghost use Rattle.file_store.specs.Stores.{Safe, state_of, follows};
 
-use crate::closes::close;
-use crate::gives::give;
-use crate::lists::list;
-use crate::makes::make;
-use crate::opens::open;
-use crate::reads::read;
-use crate::relabels::relabel;
-use crate::stats::stat;
-use crate::unlinks::unlink;
-use crate::writes::{append, write};
+use crate::serving::serve;
 use access_vectors::{Asker, Decider, Questions, Steps};
 use file_calls::{FileCall, FileOpening, FileReply};
 use file_store::Files;
-use flask_sid::{Memory, Piece};
+use flask_sid::Memory;
 use manager_history::Core;
 use retained_rights::Callback;
 use std::alloc::Global;
@@ -140,107 +131,7 @@ impl<F: Callback> Core for FileCore<F> {
         asker: &mut A,
         asked: &mut Questions,
     ) -> Result<(FileReply, FileReply), Memory> {
-        let files = &mut self.files;
-        match call {
-            FileCall::Mkdir { path } => {
-                make(
-                    files,
-                    alloc,
-                    caller,
-                    path.as_slice(),
-                    None,
-                    number,
-                    asker,
-                    asked,
-                )
-            }
-            FileCall::Create { path } => {
-                let bytes = Some(Piece::new(alloc));
-                make(
-                    files,
-                    alloc,
-                    caller,
-                    path.as_slice(),
-                    bytes,
-                    number,
-                    asker,
-                    asked,
-                )
-            }
-            FileCall::OpenFile { slot, path, mode } => {
-                open(
-                    files,
-                    caller,
-                    *slot,
-                    path.as_slice(),
-                    *mode,
-                    number,
-                    asker,
-                    asked,
-                )
-            }
-            FileCall::ReadFile {
-                slot,
-                offset,
-                length,
-            } => read(
-                files, alloc, caller, *slot, *offset, *length, number, asker, asked,
-            ),
-            FileCall::WriteFile {
-                slot,
-                offset,
-                piece,
-            } => write(
-                files,
-                alloc,
-                caller,
-                *slot,
-                *offset,
-                piece.as_bytes(),
-                number,
-                asker,
-                asked,
-            ),
-            FileCall::AppendFile { slot, piece } => {
-                append(
-                    files,
-                    alloc,
-                    caller,
-                    *slot,
-                    piece.as_bytes(),
-                    number,
-                    asker,
-                    asked,
-                )
-            }
-            FileCall::CloseFile { slot } => Ok(close(files, caller, *slot)),
-            FileCall::Unlink { path } => {
-                unlink(files, caller, path.as_slice(), number, asker, asked)
-            }
-            FileCall::List { path, skip } => {
-                list(
-                    files,
-                    alloc,
-                    caller,
-                    path.as_slice(),
-                    *skip,
-                    number,
-                    asker,
-                    asked,
-                )
-            }
-            FileCall::StatFile { path } => {
-                stat(files, caller, path.as_slice(), number, asker, asked)
-            }
-            FileCall::Relabel { path, sid } => {
-                relabel(files, caller, path.as_slice(), *sid, number, asker, asked)
-            }
-            FileCall::Give {
-                slot,
-                client,
-                target,
-            } => give(files, caller, *slot, *client, *target, number, asker, asked),
-        }
+        serve(&mut self.files, alloc, caller, call, number, asker, asked)
     }
 
     fn start<D: Decider>(

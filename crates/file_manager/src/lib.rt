@@ -15,6 +15,7 @@ mod opens;
 mod reads;
 mod relabels;
 mod replies;
+mod serving;
 mod stats;
 mod unlinks;
 mod uses;

@@ -22,6 +22,3 @@ pub use rows::Rows;
 pub use sid::Sid;
 pub use sid_table::{InternFault, MOST_CONTEXTS, SidTable};
 pub use word::{Word, cut};
-
-#[cfg(test)]
-mod tests;

@@ -13,7 +13,7 @@ use Rattle.session_text.specs.declared.session.SessionParts.{SessionParts}
 use Rattle.session_desk.specs.Days.{Day, morning_of}
 use Rattle.session_desk.specs.Desks.{Standing, none_asked}
 use Rattle.session_desk.specs.declared.opening.Openings.{Openings}
-use Rattle.flaskd_run.specs.Serial.{openings_of, lines_text, lines_audit, day_below, summary_of, run_text, text_on}
+use Rattle.flaskd_run.specs.Serial.{openings_of, lines_text, lines_audit, day_below, summary_of, run_text, text_on, summary_on}
 use Rattle.flaskd_run.specs.Underway.{MayRun, logged_text}
 use Rattle.flaskd_run.proofs.AuditLemmas.{logged_as}
 use Rattle.flaskd_run.proofs.SerialLemmas.{session_may}
@@ -32,6 +32,12 @@ pub opened_text : {Decider : Type 0} (decides : Decider → Decisions) (decider 
     → run_text audited policy contexts (decides desk.decider) clients desk.day items ≡ run_text audited policy contexts (decides decider) clients (morning_of openings) items
 opened_text decides decider openings desk audited policy contexts clients items desk_is = rw desk_is refl
 
+-- the summary of lines on the desk that it opens
+pub opened_sum : {Decider : Type 0} (decides : Decider → Decisions) (decider : Decider) (openings : Openings) (desk : Standing Decider) (items : List RunLine)
+    → desk ≡ record { day = morning_of openings; decider = decider; asked = none_asked }
+    → summary_of (day_below (decides desk.decider) desk.day items) ≡ summary_of (day_below (decides decider) (morning_of openings) items)
+opened_sum decides decider openings desk items desk_is = rw desk_is refl
+
 -- the lines of a session may run from its openings on
 pub begun_may : (d : Decisions) (session : SessionParts) (openings : Openings) (count : ℕ) (items : List RunLine)
     → openings ≡ openings_of session → count ≡ length session.clients → items ≡ session.lines
@@ -46,3 +52,9 @@ pub text_is : (d : Decisions) (session : SessionParts) (contexts : List (Context
     → run_text session.audit policy contexts d clients (morning_of openings) items ≡ text_on contexts d session
 unfolding text_on
 text_is d session contexts openings policy clients items openings_is policy_is clients_is items_is = rw (openings_is, policy_is, clients_is, items_is) refl
+
+-- the summary of a session's lines is the session's summary
+pub sum_is : (d : Decisions) (session : SessionParts) (openings : Openings) (items : List RunLine) → openings ≡ openings_of session → items ≡ session.lines
+    → summary_of (day_below d (morning_of openings) items) ≡ summary_on d session
+unfolding summary_on
+sum_is d session openings items openings_is items_is = rw (openings_is, items_is) refl

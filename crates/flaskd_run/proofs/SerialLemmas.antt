@@ -35,9 +35,9 @@ use Rattle.session_text.specs.declared.session.Run.{Run}
 use Rattle.session_text.specs.declared.session.Run.TheVariants as run
 use Rattle.session_text.specs.declared.session.RunLine.{RunLine}
 use Rattle.session_desk.specs.Days.{Day, morning_of, refusal_of, day_notified, counted_change, is_complete, is_changing, file_ack, process_ack, port_ack}
-use Rattle.session_desk.specs.Desks.{Standing, AreOpenings, HasClients, IsInStep, IsSameOpening, none_asked}
+use Rattle.session_desk.specs.Desks.{AreOpenings, HasClients, IsInStep, IsSameOpening}
 use Rattle.session_desk.specs.declared.opening.Openings.{Openings}
-use Rattle.flaskd_run.specs.Serial.{day_after, day_below, line_text, lines_text, morning, openings_of, summary_of, summary_on}
+use Rattle.flaskd_run.specs.Serial.{day_after, day_below, line_text, lines_text, morning, openings_of}
 use Rattle.flaskd_run.specs.Underway.{MayRun, IsLeft}
 use Rattle.policy_text.specs.declared.policy.PolicyParts.{PolicyParts}
 use Rattle.policy_versions.specs.Closure.{AreContexts, declared_contexts}
@@ -328,21 +328,6 @@ pub room_for_one : (d : Decisions) (clients : ℕ) (day : Day) (items rest : Lis
 room_for_one d clients day items rest line may is =
     let count : length items ≡ length rest + 1 = ap length is ∙ omega arith in
     (omega (arith, may.calls, count), omega (arith, may.changes, count))
-
--- the managers are opened by a session, and its lines may run
-pub opened_may : {Decider : Type 0} (decides : Decider → Decisions) (decider : Decider) (session : SessionParts) (openings : Openings) (desk : Standing Decider) (count : ℕ) (items : List RunLine)
-    → openings ≡ openings_of session → desk ≡ record { day = morning_of openings; decider = decider; asked = none_asked } → count ≡ length session.clients → items ≡ session.lines
-    → IsSession session → length items < 2 ^ 64 → ((sid : ℕ) → IsSidOf session.policy.contexts sid → IsTrue ((decides decider).known sid)) → MayRun (decides desk.decider) count desk.day items
-opened_may decides decider session openings desk count items openings_is desk_is count_is items_is is few known =
-    let lines_few : length session.lines < 2 ^ 64 = rw items_is at few in
-    rw (desk_is, openings_is, count_is, items_is) (session_may session (decides decider) is lines_few known)
-
--- the summary of lines that ran from a session's morning on
-pub summary_is : {Decider : Type 0} (decides : Decider → Decisions) (decider : Decider) (session : SessionParts) (openings : Openings) (desk : Standing Decider) (day : Day) (items : List RunLine)
-    → openings ≡ openings_of session → desk ≡ record { day = morning_of openings; decider = decider; asked = none_asked } → items ≡ session.lines
-    → day ≡ day_below (decides desk.decider) desk.day items → summary_of day ≡ summary_on (decides decider) session
-unfolding summary_on
-summary_is decides decider session openings desk day items openings_is desk_is items_is day_is = rw (day_is, desk_is, openings_is, items_is) refl
 
 -- want of memory is no fault of the sink
 pub no_write_fault : {X : Type 0} (result : Result X RunStop) → IsErrAnd result (λ stop. stop ≡ run_stop.Memory) → result ≡ Err run_stop.WriteFault → ⊥

@@ -112,6 +112,30 @@ fn run_opened<D: Decider, K: Sink>(
     openings: Openings,
     setting: &Setting<'_>,
     lines: Vec<RunLine>,
+    log: &mut AuditLog,
+    sink: &mut K,
+) -> Result<(), RunStop>
+    requires openings { AreOpenings (D.decides decider.now) openings }
+    requires few { length setting.now.clients.now ≤ 62 }
+    requires may { MayRun (D.decides decider.now) (length setting.now.clients.now) (Days.morning_of openings) lines.items }
+    requires log { log.old ≡ replicate (length setting.now.clients.now) [] }
+    ensures ok { OnOk result (Adds (K.written sink.old) (K.written sink.new)
+        (Serial.run_text setting.now.audited setting.now.policy.now setting.now.contexts.now (D.decides decider.now) setting.now.clients.now (Days.morning_of openings) lines.items)) }
+    ensures err { OnErr result (AddsFront (K.written sink.old) (K.written sink.new)
+        (Serial.run_text setting.now.audited setting.now.policy.now setting.now.contexts.now (D.decides decider.now) setting.now.clients.now (Days.morning_of openings) lines.items)) }
+    ensures cause { HasCause (K.faults sink.old) (K.faults sink.new) (result ≡ Err RunStop.WriteFault) }
+{
+    let mut desk = Desk::new(alloc, decider, openings)?;
+    run_to_end(alloc, &mut desk, setting, lines, log, sink)
+}
+
+/// Runs lines with a log for their audit lines.
+fn run_logged<D: Decider, K: Sink>(
+    alloc: Global,
+    decider: &D,
+    openings: Openings,
+    setting: &Setting<'_>,
+    lines: Vec<RunLine>,
     sink: &mut K,
 ) -> Result<(), RunStop>
     requires openings { AreOpenings (D.decides decider.now) openings }
@@ -123,9 +147,8 @@ fn run_opened<D: Decider, K: Sink>(
         (Serial.run_text setting.now.audited setting.now.policy.now setting.now.contexts.now (D.decides decider.now) setting.now.clients.now (Days.morning_of openings) lines.items)) }
     ensures cause { HasCause (K.faults sink.old) (K.faults sink.new) (result ≡ Err RunStop.WriteFault) }
 {
-    let mut desk = Desk::new(alloc, decider, openings)?;
     let mut log = AuditLog::new(alloc, setting.clients.len() as u8)?;
-    run_to_end(alloc, &mut desk, setting, lines, &mut log, sink)
+    run_opened(alloc, decider, openings, setting, lines, &mut log, sink)
 }
 
 /// Runs a session on a decider, whose identifiers stand for these contexts, and writes its text. Where it stops before, a
@@ -162,7 +185,49 @@ pub fn serial<D: Decider, K: Sink>(
         clients: clients.as_slice(),
         audited: audit,
     };
-    run_opened(alloc, decider, openings, &setting, lines.into_vec(), sink)
+    run_logged(alloc, decider, openings, &setting, lines.into_vec(), sink)
+}
+
+/// Runs lines on a desk, and writes the summary alone. Where it stops before, a front of the summary was written.
+fn sum_to_end<D: Decider, K: Sink>(
+    alloc: Global,
+    desk: &mut Desk<'_, D>,
+    clients: usize,
+    lines: Vec<RunLine>,
+    sink: &mut K,
+) -> Result<(), RunStop>
+    requires may { MayRun (D.decides desk.old.decider) clients desk.old.day lines.items }
+    requires few { clients ≤ 62 }
+    ensures ok { OnOk result (Adds (K.written sink.old) (K.written sink.new)
+        (Serial.summary_of (Serial.day_below (D.decides desk.old.decider) desk.old.day lines.items))) }
+    ensures err { OnErr result (AddsFront (K.written sink.old) (K.written sink.new)
+        (Serial.summary_of (Serial.day_below (D.decides desk.old.decider) desk.old.day lines.items))) }
+    ensures cause { HasCause (K.faults sink.old) (K.faults sink.new) (result ≡ Err RunStop.WriteFault) }
+{
+    run_quietly(alloc, desk, clients, lines)?;
+    write_summary(alloc, desk, sink)
+}
+
+/// Opens the managers, runs lines on them, and writes the summary alone.
+fn sum_opened<D: Decider, K: Sink>(
+    alloc: Global,
+    decider: &D,
+    openings: Openings,
+    clients: usize,
+    lines: Vec<RunLine>,
+    sink: &mut K,
+) -> Result<(), RunStop>
+    requires openings { AreOpenings (D.decides decider.now) openings }
+    requires few { clients ≤ 62 }
+    requires may { MayRun (D.decides decider.now) clients (Days.morning_of openings) lines.items }
+    ensures ok { OnOk result (Adds (K.written sink.old) (K.written sink.new)
+        (Serial.summary_of (Serial.day_below (D.decides decider.now) (Days.morning_of openings) lines.items))) }
+    ensures err { OnErr result (AddsFront (K.written sink.old) (K.written sink.new)
+        (Serial.summary_of (Serial.day_below (D.decides decider.now) (Days.morning_of openings) lines.items))) }
+    ensures cause { HasCause (K.faults sink.old) (K.faults sink.new) (result ≡ Err RunStop.WriteFault) }
+{
+    let mut desk = Desk::new(alloc, decider, openings)?;
+    sum_to_end(alloc, &mut desk, clients, lines, sink)
 }
 
 /// Runs a session on a decider, and writes its summary alone.
@@ -191,7 +256,12 @@ pub fn summary<D: Decider, K: Sink>(
         lines,
     } = session;
     let openings = openings_of(alloc, root, nodes, port, ports, clients.as_slice())?;
-    let mut desk = Desk::new(alloc, decider, openings)?;
-    run_quietly(alloc, &mut desk, clients.len(), lines.into_vec())?;
-    write_summary(alloc, &desk, sink)
+    sum_opened(
+        alloc,
+        decider,
+        openings,
+        clients.len(),
+        lines.into_vec(),
+        sink,
+    )
 }

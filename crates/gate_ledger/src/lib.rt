@@ -9,6 +9,3 @@ mod station;
 pub use change::{Acknowledged, acknowledge, notify};
 pub use ledger::{Ledger, Line, NotifyFault};
 pub use station::call;
-
-#[cfg(test)]
-mod tests;

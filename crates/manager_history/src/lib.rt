@@ -16,6 +16,3 @@ pub use core_trait::Core;
 pub use entry::{Entry, History};
 pub use keeper::Keeper;
 pub use passes::Passes;
-
-#[cfg(test)]
-mod tests;

@@ -9,6 +9,3 @@ mod policy;
 mod rules;
 
 pub use policy::{print, put_policy};
-
-#[cfg(test)]
-mod tests;

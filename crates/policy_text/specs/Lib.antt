@@ -1,5 +1,6 @@
 pub mod Forms
 pub mod Above
+pub mod Leaving
 pub mod Known
 pub mod Grammar
 pub mod Reading

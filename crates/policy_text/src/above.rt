@@ -1,4 +1,4 @@
-ghost use Rattle.std.specs.Prelude.{◌≡◌, ◌<◌, ◌^◌, ◌||◌, true, length};
+ghost use Rattle.std.specs.Prelude.{◌≡◌, ◌||◌, true, nat_le, length};
 ghost use Rattle.std.specs.Bool.{OnTrue};
 ghost use Rattle.std.specs.List.{list_all, list_any};
 ghost use Rattle.flask_sid.specs.Names.{is_long};
@@ -139,11 +139,15 @@ impl PolicyParts {
             .saturating_add(KIND_LIMIT)
     }
 
-    pub(crate) fn listed_count(&self) -> usize
-        requires { Above.listed_count self.now < 2 ^ 64 }
-        ensures { result ≡ Above.listed_count self.now }
+    /// Whether no line more on permissions may stand outside the versions.
+    pub(crate) fn is_full_for_listed(&self) -> bool
+        ensures { result ≡ nat_le Above.listed_limit (Above.listed_count self.now) }
     {
-        self.nevers.len() + self.silent.len() + self.loud.len()
+        self.nevers
+            .len()
+            .saturating_add(self.silent.len())
+            .saturating_add(self.loud.len())
+            >= LISTED_LIMIT
     }
 
     /// Whether no context more may be declared, or no type where the context's type is new.

@@ -1,8 +1,8 @@
-ghost use Rattle.std.specs.Prelude.{◌≡◌, ◌∷◌, ◌++◌, [], IfOk};
-ghost use Rattle.text_lines.specs.Refusals.{Gives};
+ghost use Rattle.std.specs.Prelude.{◌≡◌, ◌∷◌, ◌++◌, [], IfOk, OnOk};
+ghost use Rattle.policy_text.specs.Leaving.{Leaves};
 ghost use Rattle.policy_text.specs.Grammar;
 
-use crate::above::{ATTRIBUTE_LIMIT, KIND_LIMIT, LISTED_LIMIT, is_some_long};
+use crate::above::{ATTRIBUTE_LIMIT, KIND_LIMIT, is_some_long};
 use crate::form::{Listing, PatternForm};
 use crate::hints::Hints;
 use crate::policy::{AttributeLine, ContextLine, KindLine, Pattern, PolicyParts};
@@ -16,9 +16,9 @@ pub(crate) fn context_read(
     alloc: Global,
     line: u32,
     context: ContextOf<Word<'_>>,
-    policy: PolicyParts,
-) -> Result<PolicyParts, Refusal>
-    ensures { Gives result (Grammar.context_read line context.entry policy) }
+    policy: &mut PolicyParts,
+) -> Result<(), Refusal>
+    ensures { Leaves result policy.new (Grammar.context_read line context.entry policy.old) }
 {
     if policy.has_version() {
         return Err(Refusal::Fault(FaultKind::Order));
@@ -29,49 +29,48 @@ pub(crate) fn context_read(
     if policy.has_context(&context) || policy.is_attribute(&context.kind) {
         return Err(Refusal::Fault(FaultKind::Twice));
     }
-    Ok(with_context(alloc, line, &context, policy)?)
+    add_context(alloc, line, &context, policy)?;
+    Ok(())
 }
 
 #[tactic(auto, unfolding(crate::specs::Grammar::with_context))]
-fn with_context(
+fn add_context(
     alloc: Global,
     line: u32,
     context: &ContextOf<Word<'_>>,
-    policy: PolicyParts,
-) -> Result<PolicyParts, Memory>
-    ensures { IfOk result (λ next. next ≡ Grammar.with_context line context.now policy) }
+    policy: &mut PolicyParts,
+) -> Result<(), Memory>
+    ensures { OnOk result (policy.new ≡ Grammar.with_context line context.now policy.old) }
 {
-    let mut next = with_kind_of(alloc, line, &context.kind, policy)?;
+    add_kind_of(alloc, line, &context.kind, policy)?;
     let context = kept(alloc, context)?;
-    next.contexts.push(ContextLine { line, context })?;
-    Ok(next)
+    policy.contexts.push(ContextLine { line, context })
 }
 
-fn with_kind_of(
+fn add_kind_of(
     alloc: Global,
     line: u32,
     name: &Word<'_>,
-    policy: PolicyParts,
-) -> Result<PolicyParts, Memory>
-    ensures { IfOk result (λ next. next ≡ Grammar.with_kind_of line name.now policy) }
+    policy: &mut PolicyParts,
+) -> Result<(), Memory>
+    ensures { OnOk result (policy.new ≡ Grammar.with_kind_of line name.now policy.old) }
 {
     if policy.is_kind(name) {
-        return Ok(policy);
+        return Ok(());
     }
-    with_kind(alloc, line, name, policy)
+    add_kind(alloc, line, name, policy)
 }
 
-fn with_kind(
+fn add_kind(
     alloc: Global,
     line: u32,
     name: &Word<'_>,
-    mut policy: PolicyParts,
-) -> Result<PolicyParts, Memory>
-    ensures { IfOk result (λ next. next ≡ Grammar.with_kind line name.now policy) }
+    policy: &mut PolicyParts,
+) -> Result<(), Memory>
+    ensures { OnOk result (policy.new ≡ Grammar.with_kind line name.now policy.old) }
 {
     let name = Name::of(alloc, name)?;
-    policy.kinds.push(KindLine { line, name })?;
-    Ok(policy)
+    policy.kinds.push(KindLine { line, name })
 }
 
 /// A `type` line.
@@ -80,9 +79,9 @@ pub(crate) fn kind_read(
     alloc: Global,
     line: u32,
     name: Word<'_>,
-    policy: PolicyParts,
-) -> Result<PolicyParts, Refusal>
-    ensures { Gives result (Grammar.kind_read line name.entry policy) }
+    policy: &mut PolicyParts,
+) -> Result<(), Refusal>
+    ensures { Leaves result policy.new (Grammar.kind_read line name.entry policy.old) }
 {
     if policy.has_version() {
         return Err(Refusal::Fault(FaultKind::Order));
@@ -93,7 +92,8 @@ pub(crate) fn kind_read(
     if policy.is_kind(&name) || policy.is_attribute(&name) {
         return Err(Refusal::Fault(FaultKind::Twice));
     }
-    Ok(with_kind(alloc, line, &name, policy)?)
+    add_kind(alloc, line, &name, policy)?;
+    Ok(())
 }
 
 /// An `attribute` line.
@@ -103,10 +103,10 @@ pub(crate) fn attribute_read(
     line: u32,
     name: Word<'_>,
     members: Words<'_>,
-    policy: PolicyParts,
+    policy: &mut PolicyParts,
     hints: &mut Hints,
-) -> Result<PolicyParts, Refusal>
-    ensures { Gives result (Grammar.attribute_read line name.entry members.entry policy) }
+) -> Result<(), Refusal>
+    ensures { Leaves result policy.new (Grammar.attribute_read line name.entry members.entry policy.old) }
 {
     if policy.has_version() {
         return Err(Refusal::Fault(FaultKind::Order));
@@ -123,17 +123,18 @@ pub(crate) fn attribute_read(
     if policy.is_kind(&name) || policy.is_attribute(&name) {
         return Err(Refusal::Fault(FaultKind::Twice));
     }
-    Ok(with_attribute(alloc, line, &name, members, policy)?)
+    add_attribute(alloc, line, &name, members, policy)?;
+    Ok(())
 }
 
-fn with_attribute(
+fn add_attribute(
     alloc: Global,
     line: u32,
     name: &Word<'_>,
     members: Words<'_>,
-    mut policy: PolicyParts,
-) -> Result<PolicyParts, Memory>
-    ensures { IfOk result (λ next. next ≡ Grammar.with_attribute line name.now members.entry policy) }
+    policy: &mut PolicyParts,
+) -> Result<(), Memory>
+    ensures { OnOk result (policy.new ≡ Grammar.with_attribute line name.now members.entry policy.old) }
 {
     let name = Name::of(alloc, name)?;
     let members = kept_names(alloc, members)?;
@@ -141,8 +142,7 @@ fn with_attribute(
         line,
         name,
         members,
-    })?;
-    Ok(policy)
+    })
 }
 
 fn kept_names(alloc: Global, words: Words<'_>) -> Result<Rows<Name>, Memory>
@@ -163,32 +163,28 @@ pub(crate) fn listed_read(
     line: u32,
     listing: Listing,
     words: PatternForm<'_>,
-    policy: PolicyParts,
+    policy: &mut PolicyParts,
     hints: &mut Hints,
-) -> Result<PolicyParts, Refusal>
-    ensures { Gives result (Grammar.listed_read line listing words.entry policy) }
+) -> Result<(), Refusal>
+    ensures { Leaves result policy.new (Grammar.listed_read line listing words.entry policy.old) }
 {
     if policy.has_version() {
         return Err(Refusal::Fault(FaultKind::Order));
     }
-    if words.is_long() || policy.listed_count() >= LISTED_LIMIT {
+    if words.is_long() || policy.is_full_for_listed() {
         return Err(Refusal::Fault(FaultKind::Limit));
     }
     let pattern = policy.pattern(alloc, line, &words, hints)?;
-    Ok(with_listed(listing, pattern, policy)?)
+    add_listed(listing, pattern, policy)?;
+    Ok(())
 }
 
-fn with_listed(
-    listing: Listing,
-    pattern: Pattern,
-    mut policy: PolicyParts,
-) -> Result<PolicyParts, Memory>
-    ensures { IfOk result (λ next. next ≡ Grammar.with_listed listing pattern policy) }
+fn add_listed(listing: Listing, pattern: Pattern, policy: &mut PolicyParts) -> Result<(), Memory>
+    ensures { OnOk result (policy.new ≡ Grammar.with_listed listing pattern policy.old) }
 {
     match listing {
-        Listing::Never => policy.nevers.push(pattern)?,
-        Listing::Silent => policy.silent.push(pattern)?,
-        Listing::Loud => policy.loud.push(pattern)?,
+        Listing::Never => policy.nevers.push(pattern),
+        Listing::Silent => policy.silent.push(pattern),
+        Listing::Loud => policy.loud.push(pattern),
     }
-    Ok(policy)
 }

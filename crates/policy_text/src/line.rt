@@ -1,5 +1,6 @@
 ghost use Rattle.std.specs.Prelude.{◌≡◌, ◌≤◌, OnOk};
 ghost use Rattle.text_lines.specs.Refusals.{Gives};
+ghost use Rattle.policy_text.specs.Leaving.{Leaves};
 ghost use Rattle.policy_text.specs.Grammar;
 
 use crate::declarations::{attribute_read, context_read, kind_read, listed_read};
@@ -59,9 +60,9 @@ fn form_read(
     ensures { Gives result (Grammar.form_read number form.entry above) }
 {
     match above {
-        Some(policy) => {
-            let next = below_header(alloc, number, form, policy, hints)?;
-            Ok(Some(next))
+        Some(mut policy) => {
+            below_header(alloc, number, form, &mut policy, hints)?;
+            Ok(Some(policy))
         }
         None => match form {
             Form::Header => Ok(Some(no_parts(alloc))),
@@ -75,10 +76,10 @@ fn below_header(
     alloc: Global,
     n: u32,
     form: Form<'_>,
-    policy: PolicyParts,
+    policy: &mut PolicyParts,
     hints: &mut Hints,
-) -> Result<PolicyParts, Refusal>
-    ensures { Gives result (Grammar.below_header n form.entry policy) }
+) -> Result<(), Refusal>
+    ensures { Leaves result policy.new (Grammar.below_header n form.entry policy.old) }
 {
     match form {
         Form::Header => Err(Refusal::Fault(FaultKind::Order)),

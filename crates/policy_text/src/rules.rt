@@ -1,5 +1,5 @@
-ghost use Rattle.std.specs.Prelude.{◌≡◌, ◌∷◌, [], IfOk, Some, None};
-ghost use Rattle.text_lines.specs.Refusals.{Gives};
+ghost use Rattle.std.specs.Prelude.{◌≡◌, OnOk};
+ghost use Rattle.policy_text.specs.Leaving.{Leaves};
 ghost use Rattle.policy_text.specs.Grammar;
 
 use crate::above::{RULE_LIMIT, VERSION_LIMIT};
@@ -16,24 +16,24 @@ use text_lines::{FaultKind, Refusal};
 pub(crate) fn version_read(
     alloc: Global,
     line: u32,
-    policy: PolicyParts,
-) -> Result<PolicyParts, Refusal>
-    ensures { Gives result (Grammar.version_read line policy) }
+    policy: &mut PolicyParts,
+) -> Result<(), Refusal>
+    ensures { Leaves result policy.new (Grammar.version_read line policy.old) }
 {
     if policy.versions.len() >= VERSION_LIMIT {
         return Err(Refusal::Fault(FaultKind::Limit));
     }
-    Ok(with_version(alloc, line, policy)?)
+    add_version(alloc, line, policy)?;
+    Ok(())
 }
 
-fn with_version(alloc: Global, line: u32, mut policy: PolicyParts) -> Result<PolicyParts, Memory>
-    ensures { IfOk result (λ next. next ≡ Grammar.with_version line policy) }
+fn add_version(alloc: Global, line: u32, policy: &mut PolicyParts) -> Result<(), Memory>
+    ensures { OnOk result (policy.new ≡ Grammar.with_version line policy.old) }
 {
     policy.versions.push(Version {
         line,
         rules: Rows::new(alloc),
-    })?;
-    Ok(policy)
+    })
 }
 
 /// An `allow` or `withhold` line.
@@ -43,10 +43,10 @@ pub(crate) fn decided_read(
     line: u32,
     decision: Decision,
     words: PatternForm<'_>,
-    policy: PolicyParts,
+    policy: &mut PolicyParts,
     hints: &mut Hints,
-) -> Result<PolicyParts, Refusal>
-    ensures { Gives result (Grammar.decided_read line decision words.entry policy) }
+) -> Result<(), Refusal>
+    ensures { Leaves result policy.new (Grammar.decided_read line decision words.entry policy.old) }
 {
     if !policy.has_version() {
         return Err(Refusal::Fault(FaultKind::Order));
@@ -55,7 +55,8 @@ pub(crate) fn decided_read(
         return Err(Refusal::Fault(FaultKind::Limit));
     }
     let pattern = policy.pattern(alloc, line, &words, hints)?;
-    Ok(with_rule(deciding_rule(decision, pattern), policy)?)
+    add_rule(deciding_rule(decision, pattern), &mut policy.versions)?;
+    Ok(())
 }
 
 /// A `transition` or `member` line.
@@ -65,10 +66,10 @@ pub(crate) fn labelled_read(
     line: u32,
     labelling: Labelling,
     words: LabelForm<'_>,
-    policy: PolicyParts,
+    policy: &mut PolicyParts,
     hints: &mut Hints,
-) -> Result<PolicyParts, Refusal>
-    ensures { Gives result (Grammar.labelled_read line labelling words.entry policy) }
+) -> Result<(), Refusal>
+    ensures { Leaves result policy.new (Grammar.labelled_read line labelling words.entry policy.old) }
 {
     if !policy.has_version() {
         return Err(Refusal::Fault(FaultKind::Order));
@@ -77,27 +78,20 @@ pub(crate) fn labelled_read(
         return Err(Refusal::Fault(FaultKind::Limit));
     }
     let rule = policy.labelling_rule(alloc, line, labelling, &words, hints)?;
-    Ok(with_rule(rule, policy)?)
+    add_rule(rule, &mut policy.versions)?;
+    Ok(())
 }
 
-// The policy whose newest version has one rule line more.
-fn with_rule(rule: RuleLine, mut policy: PolicyParts) -> Result<PolicyParts, Memory>
-    ensures { IfOk result (λ next. next ≡ record policy { versions = Grammar.with_rule rule policy.versions }) }
-{
-    let versions = with_newest_rule(rule, policy.versions)?;
-    policy.versions = versions;
-    Ok(policy)
-}
-
-fn with_newest_rule(rule: RuleLine, mut versions: Rows<Version>) -> Result<Rows<Version>, Memory>
-    ensures { IfOk result (λ next. next ≡ Grammar.with_rule rule versions) }
+// Gives the newest version one rule line more.
+fn add_rule(rule: RuleLine, versions: &mut Rows<Version>) -> Result<(), Memory>
+    ensures { OnOk result (versions.new ≡ Grammar.with_rule rule versions.old) }
 {
     match versions.pop() {
-        None => Ok(versions),
+        None => Ok(()),
         Some(mut newest) => {
             newest.rules.push(rule)?;
             versions.push(newest)?;
-            Ok(versions)
+            Ok(())
         }
     }
 }

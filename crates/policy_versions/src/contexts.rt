@@ -47,20 +47,58 @@ impl Contexts {
         ensures full { result ≡ Err fill_fault.TooMany → HasTooMany policy.now }
     {
         let mut users = UserRoles::new(alloc);
-        let declared = declared_places(alloc, policy, kinds, &mut users)?;
-        let count = declared.len();
-        let mut found = Found::of(alloc, users.len() as u16, declared)?;
-        close(alloc, policy, given, &users, &mut found)?;
+        let (found, count) = closed(alloc, policy, kinds, given, &mut users)?;
         let places = ordered_places(alloc, policy, &users, found.places(), count)?;
-        let sids = sids_of(alloc, policy, &users, places.as_slice())?;
-        let cells = cells_of(alloc, users.len() as u16, places.as_slice())?;
-        Ok(Contexts {
-            sids,
-            users,
-            places,
-            cells,
-        })
+        Ok(numbered(alloc, policy, users, places)?)
     }
+}
+
+/// All places to which a policy leads, with those of the declared contexts first, and how many these are. Their users and
+/// roles get rows. `TooMany` exactly where there are more places than identifiers.
+fn closed(
+    alloc: Global,
+    policy: &PolicyText,
+    kinds: &Kinds,
+    given: &GivenRows,
+    users: &mut UserRoles,
+) -> Result<(Found, usize), FillFault>
+    requires kinds { AreKindsOf policy.now kinds.now }
+    requires given { AreGivenOf policy.now given.now }
+    requires users { length users.old ≡ 0 }
+    ensures few { length users.new ≤ 8190 }
+    ensures users { IfOk result (λ closed. AreRows users.new) }
+    ensures rows { IfOk result (λ closed. closed.0.rows ≡ length users.new) }
+    ensures count { IfOk result (λ closed. closed.1 ≤ length closed.0.places) }
+    ensures whole { IfOk result (λ closed. AreWhole policy.now users.new closed.0.places) }
+    ensures begun { IfOk result (λ closed. contexts_of policy.now users.new (take closed.1 closed.0.places) ≡ declared_contexts policy.now) }
+    ensures full { result ≡ Err fill_fault.TooMany → HasTooMany policy.now }
+{
+    let declared = declared_places(alloc, policy, kinds, users)?;
+    let count = declared.len();
+    let mut found = Found::of(alloc, users.len() as u16, declared)?;
+    close(alloc, policy, given, users, &mut found)?;
+    Ok((found, count))
+}
+
+/// The contexts of places, numbered in their order.
+fn numbered(
+    alloc: Global,
+    policy: &PolicyText,
+    users: UserRoles,
+    places: Vec<Place>,
+) -> Result<Contexts, Memory>
+    requires ordered { AreOrdered policy.now users places.items }
+    requires few { length users ≤ 8190 }
+    ensures { IfOk result (λ contexts. AreNumbered policy.now contexts.users contexts.places.items contexts.sids contexts.cells.items) }
+{
+    let sids = sids_of(alloc, policy, &users, places.as_slice())?;
+    let cells = cells_of(alloc, users.len() as u16, places.as_slice())?;
+    Ok(Contexts {
+        sids,
+        users,
+        places,
+        cells,
+    })
 }
 
 /// The first places as they stand, and the others in byte order of the texts of their contexts.

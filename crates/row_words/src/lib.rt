@@ -11,6 +11,3 @@ mod rows;
 
 pub use gate_words::{gate_word, raise_by, split_gate};
 pub use rows::{ROWS, row_place, row_word, split_row};
-
-#[cfg(test)]
-mod tests;

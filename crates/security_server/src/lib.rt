@@ -7,6 +7,3 @@ mod server;
 
 pub use answers::{ProposeFault, Receipt, ReceiptFault};
 pub use server::Server;
-
-#[cfg(test)]
-mod tests;

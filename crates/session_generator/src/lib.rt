@@ -7,6 +7,3 @@ mod policy;
 mod runs;
 
 pub use making::generated;
-
-#[cfg(test)]
-mod tests;

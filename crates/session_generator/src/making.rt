@@ -111,6 +111,9 @@ pub fn generated(alloc: Global, seed: u32, clients: u8, lines: u32) -> Result<Se
 {
     let first = LINES_ABOVE + u32::from(clients) + 2;
     let object = sid_at(OBJECT_SID);
+    // In this order there is least to give back where memory ends.
+    let made_clients = clients_to(alloc, clients)?;
+    let made_lines = lines_from(alloc, clients, seed, first, lines)?;
     let parts = SessionParts {
         policy: policy(alloc)?,
         root: object,
@@ -118,8 +121,8 @@ pub fn generated(alloc: Global, seed: u32, clients: u8, lines: u32) -> Result<Se
         ports: Rows::new(alloc),
         audit: false,
         nodes: Rows::new(alloc),
-        clients: clients_to(alloc, clients)?,
-        lines: lines_from(alloc, clients, seed, first, lines)?,
+        clients: made_clients,
+        lines: made_lines,
     };
     Ok(Session::of(parts))
 }

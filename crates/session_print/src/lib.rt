@@ -10,6 +10,3 @@ mod setup;
 mod words;
 
 pub use session::print;
-
-#[cfg(test)]
-mod tests;

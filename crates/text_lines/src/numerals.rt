@@ -51,20 +51,3 @@ fn value_of(digits: &[u8]) -> u64
     }
     value
 }
-
-#[cfg(test)]
-mod tests {
-    use super::*;
-    use std::test::Fail;
-
-    #[test]
-    fn numbers_are_written_and_read(rt: HostRuntime) -> Result<(), Fail> {
-        for (written, number) in [("0", 0), ("10", 10), ("4294967295", 4_294_967_295)] {
-            let mut out = Piece::new(rt.alloc());
-            put_number(&mut out, number).or(Err("out of memory"))?;
-            assert_eq!(rt; out.as_bytes(), written.as_bytes());
-            assert_eq!(rt; numeral(&Word::new(out.as_bytes())), Some(number));
-        }
-        Ok(())
-    }
-}

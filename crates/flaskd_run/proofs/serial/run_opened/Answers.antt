@@ -20,3 +20,12 @@ returns-clause-err g c =
     let setting = c.args.setting.now in
     rw (← opened_text g.D.Decider.decides c.args.decider.now c.args.openings c.in_ok-desk.desk setting.audited setting.policy.now setting.contexts.now setting.clients.now c.args.lines.items c.in_ok-desk.ensures)
     c.run_to_end.ensures.err
+
+pub run_to_end-requires-clause-few : goal.run_to_end-requires-clause-few
+run_to_end-requires-clause-few g c = c.requires.few
+
+pub run_to_end-requires-clause-log : goal.run_to_end-requires-clause-log
+run_to_end-requires-clause-log g c = c.requires.log
+
+pub returns-clause-cause : goal.returns-clause-cause
+returns-clause-cause g c = c.run_to_end.ensures.cause

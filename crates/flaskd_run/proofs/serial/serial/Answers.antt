@@ -14,23 +14,23 @@ opened_by session clients = record {
   ports = record { clients = map (λ client. client.sid) clients; initial = session.port; ports = session.ports };
 }
 
-pub run_opened-requires-clause-may : goal.run_opened-requires-clause-may
-run_opened-requires-clause-may g c =
+pub run_logged-requires-clause-may : goal.run_logged-requires-clause-may
+run_logged-requires-clause-may g c =
     begun_may (g.D.Decider.decides c.args.decider.now) c.args.session c.in_ok-openings.openings (length c.as_slice-2.result.now) c.into_vec.result.items
     (c.in_ok-openings.ensures ∙ ap (opened_by c.args.session) c.as_slice.ensures) (ap length c.as_slice-2.ensures) c.into_vec.ensures
     c.requires.session (omega (arith, c.into_vec.result.small)) c.requires.known
 
-pub run_opened-requires-clause-few : goal.run_opened-requires-clause-few
-run_opened-requires-clause-few g c = rw c.as_slice-2.ensures (few_clients c.args.session c.requires.session)
+pub run_logged-requires-clause-few : goal.run_logged-requires-clause-few
+run_logged-requires-clause-few g c = rw c.as_slice-2.ensures (few_clients c.args.session c.requires.session)
 
 pub returns-clause-ok : goal.returns-clause-ok
 returns-clause-ok g c =
     let text = text_is (g.D.Decider.decides c.args.decider.now) c.args.session c.args.contexts.now c.in_ok-openings.openings c.parts.result.now c.as_slice-2.result.now c.into_vec.result.items
     (c.in_ok-openings.ensures ∙ ap (opened_by c.args.session) c.as_slice.ensures) c.parts.ensures.parts c.as_slice-2.ensures c.into_vec.ensures in
-    rw (← text) c.run_opened.ensures.ok
+    rw (← text) c.run_logged.ensures.ok
 
 pub returns-clause-err : goal.returns-clause-err
 returns-clause-err g c =
     let text = text_is (g.D.Decider.decides c.args.decider.now) c.args.session c.args.contexts.now c.in_ok-openings.openings c.parts.result.now c.as_slice-2.result.now c.into_vec.result.items
     (c.in_ok-openings.ensures ∙ ap (opened_by c.args.session) c.as_slice.ensures) c.parts.ensures.parts c.as_slice-2.ensures c.into_vec.ensures in
-    rw (← text) c.run_opened.ensures.err
+    rw (← text) c.run_logged.ensures.err

@@ -1,5 +1,0 @@
-use Rattle.access_vectors.specs.NoSlots.{now_following-none}
-use Rattle.manager_history.proofs.tests.ReaderCore.revise.Goals as goal
-
-pub returns-clause-follows : goal.returns-clause-follows
-returns-clause-follows g c = now_following-none _ _
