@@ -3,3 +3,8 @@ pub mod MarkLemmas
 pub mod FitLemmas
 pub mod SlotsLemmas
 pub mod Opening
+pub mod MapLemmas
+pub mod Following
+pub mod ClaimLemmas
+pub mod StepLemmas
+pub mod LawLemmas

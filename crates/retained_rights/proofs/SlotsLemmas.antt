@@ -1,5 +1,5 @@
 -- Loops over the slots of a store.
-use Rattle.std.proofs.Common.{◌≡◌, ℕ, zero, suc, ◌⊎◌, ◌+◌, ◌<◌, ◌≤◌, Bool, true, false, cond, not, ◌&&◌, ◌||◌, eqb, List, [], ◌∷◌, ◌++◌, length, take, drop, Option, None, Some, IsTrue, refl, sym, ap, subst, ◌∙◌, inl, inr, arith}
+use Rattle.std.proofs.Common.{◌≡◌, ℕ, zero, suc, ◌⊎◌, ◌+◌, ◌<◌, ◌≤◌, Bool, true, false, cond, not, ◌&&◌, ◌||◌, eqb, List, [], ◌∷◌, ◌++◌, length, take, drop, min, Option, None, Some, IsTrue, refl, sym, ap, subst, ◌∙◌, inl, inr, arith}
 use Rattle.std.specs.Option.{option_map}
 use Rattle.std.specs.Ordering.{nat_cmp}
 use Rattle.std.specs.FinMap as maps
@@ -320,13 +320,29 @@ module _ {d : Decisions} {rule : Rule} {class : Class} {phase : Phase} {held : F
       here None b same = absurd (none_some was same)
       here (Some grant) b same = ap Some (twice b grant (some_is _ was same))
 
+  all_none : ((q : ℕ) → from ≤ q → holds words q ≡ false) → (q : ℕ) → holds words q ≡ false
+  all_none nothing q = elim (cases_lt q from) [ inl early ↦ so_far.none q early | inr late ↦ nothing q late ]
+
+  -- where no more is stale all are revised
+  none_left : ((q : ℕ) → from ≤ q → holds words q ≡ false) → (places words ≡ []) × (length all ≤ done)
+  none_left nothing =
+      let empty : places words ≡ [] = no_members (places words) (λ q. among-places words q ∙ all_none nothing q) in
+      (empty, past_end done all (sym so_far.left ∙ empty))
+
+  -- how many were revised where the loop ends
+  pub revised_count : (k : ℕ) → done ≤ k → (done ≡ k) ⊎ ((q : ℕ) → from ≤ q → holds words q ≡ false) → done ≡ min k (length all)
+  revised_count k few ended = elim ended [
+    | inl is ↦ omega (arith, so_far.within)
+    | inr nothing ↦ omega (arith, so_far.within, (none_left nothing).1)
+  ]
+
   -- as many as were to be revised, or all of them
   pub revised_gets : (k : ℕ) → done ≤ k → (done ≡ k) ⊎ ((q : ℕ) → from ≤ q → holds words q ≡ false) → (places words ≡ drop k all) × (now ≡ all_revised d rule class (version_at phase (number_of phase)) (number_of phase) (take k all) held)
   revised_gets k few ended = elim ended [
     | inl is ↦ (so_far.left ∙ ap (λ n. drop n all) is, same_maps _ _ (λ q. so_far.gets q ∙ ap (λ n. option_map (λ grant. cond (among q (take n all)) (anew grant) grant) (maps.get held q)) is ∙ sym (get-revised k q)))
     | inr nothing ↦
-        let empty : places words ≡ [] = no_members (places words) (λ q. among-places words q ∙ all_none nothing q) in
-        let over : length all ≤ done = past_end done all (sym so_far.left ∙ empty) in (
+        let empty : places words ≡ [] = (none_left nothing).0 in
+        let over : length all ≤ done = (none_left nothing).1 in (
           empty ∙ sym (drop_past k all (omega arith)),
           same_maps _ _ (λ q. so_far.gets q
               ∙ ap (λ xs. option_map (λ grant. cond (among q xs) (anew grant) grant) (maps.get held q)) (take_past done all over ∙ sym (take_past k all (omega arith))) ∙ sym (get-revised k q)),
@@ -336,9 +352,6 @@ module _ {d : Decisions} {rule : Rule} {class : Class} {phase : Phase} {held : F
       get-revised : (k q : ℕ) → maps.get (all_revised d rule class (version_at phase (number_of phase)) (number_of phase) (take k all) held) q
           ≡ option_map (λ grant. cond (among q (take k all)) (anew grant) grant) (maps.get held q)
       get-revised k q = get-mapped (λ place grant. cond (among place (take k all)) (anew grant) grant) held q
-
-      all_none : ((q : ℕ) → from ≤ q → holds words q ≡ false) → (q : ℕ) → holds words q ≡ false
-      all_none nothing q = elim (cases_lt q from) [ inl early ↦ so_far.none q early | inr late ↦ nothing q late ]
 
 -- ---- an asker that was asked
 

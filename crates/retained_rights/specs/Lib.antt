@@ -1,4 +1,5 @@
 pub mod Rules
 pub mod Rights
+pub mod Claims
 pub mod Stored
 pub mod Good

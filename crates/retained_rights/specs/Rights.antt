@@ -1,16 +1,21 @@
 -- Rights that are held in slots, and which of them a pending change leaves stale.
-use Rattle.std.specs.Prelude.{◌≡◌, ℕ, ◌-◌, Bool, false, not, ◌==◌, List, [], Option, Some, None, option_map, IsTrue, if◌then◌else◌}
+use Rattle.std.specs.Prelude.{◌≡◌, ℕ, ◌-◌, Bool, false, not, ◌==◌, List, [], Option, Some, None, option_map, IsTrue, refl, if◌then◌else◌}
 use Rattle.std.specs.List.{list_any}
 use Rattle.std.specs.Ordering.{nat_cmp}
 use Rattle.std.specs.FinMap as maps
 use Rattle.std.specs.FinMap.{FinMap}
+use Rattle.std.specs.Coded.{Coded, code_by, coded×, coded_list, coded_ℕ}
 use Rattle.access_vectors.specs.Decisions.{Decisions}
 use Rattle.access_vectors.specs.Mapped.{mapped}
 use Rattle.access_vectors.specs.Phases.{version_at, AreVersions}
 use Rattle.access_vectors.specs.Stale.{Follows, Pair, stale_slots}
+use Rattle.access_vectors.specs.contracts.class.Class as class_type
+use Rattle.access_vectors.specs.contracts.phase.Phase as phase_type
 use Rattle.access_vectors.specs.declared.class.Class.{Class}
 use Rattle.access_vectors.specs.declared.phase.Phase.{Phase}
 use Rattle.access_vectors.specs.declared.phase.Phase.TheVariants.{Settled, Pending}
+use Rattle.retained_rights.specs.contracts.rule.Rule as rule_type
+use Rattle.retained_rights.specs.contracts.grant.Grant as grant_type
 use Rattle.retained_rights.specs.declared.rule.Rule.{Rule}
 use Rattle.retained_rights.specs.declared.grant.Grant.{Grant}
 use Rattle.retained_rights.specs.declared.grant.Usable.{Usable}
@@ -27,6 +32,14 @@ pub record Rights : Type 0 where
   pub phase : Phase
   pub held : FinMap nat_cmp Grant
   pub stale : List ℕ
+
+-- how contracts tell rights apart
+abbrev pub rights_code : Coded Rights
+rights_code =
+    code_by (Rule × (Class × (Phase × (FinMap nat_cmp Grant × List ℕ))))
+    (coded× rule_type.the_row.coded (coded× class_type.the_row.coded (coded× phase_type.the_row.coded (coded× (maps.code coded_ℕ grant_type.the_row.coded) (coded_list coded_ℕ)))))
+    (λ v. (v.rule, (v.class, (v.phase, (v.held, v.stale)))))
+    (λ p. record { rule = p.0; class = p.1.0; phase = p.1.1.0; held = p.1.1.1.0; stale = p.1.1.1.1 }) (λ _. refl)
 
 -- the policy number that bits follow which were got under a number: where a change is settled all bits follow it; while
 -- one is pending, bits that were not got under its number follow the number before it

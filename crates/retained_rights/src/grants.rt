@@ -1,12 +1,16 @@
-ghost use Rattle.std.specs.Prelude.{◌≡◌, ◌+◌, ◌-◌, ◌<◌, ◌≤◌, true, min, length, take, drop, None, is_some, IsTrue, IfOk, IfErr, OnOk, OnErr};
+//! The rights of one manager's slots: how they are granted, used, given back and moved, and how a change of policy revises
+//! them.
+
+ghost use Rattle.std.specs.Prelude.{◌≡◌, ◌+◌, ◌-◌, ◌<◌, ◌≤◌, true, min, length, take, drop, None, is_some, IsTrue, IfOk, IfErr, OnOk, OnErr, MatchOption};
 ghost use Rattle.std.specs.Option.{option_map};
 ghost use Rattle.std.specs.FinMap as maps;
 ghost use Rattle.access_vectors.specs.Decisions.{Decisions};
 ghost use Rattle.access_vectors.specs.Phases.{number_of, version_at, MayName, is_pending, acknowledged};
-ghost use Rattle.access_vectors.specs.Stale.{slot_place};
+ghost use Rattle.access_vectors.specs.Stale.{slot_place, now_following, all_following};
 ghost use Rattle.access_vectors.specs.declared.phase.Phase.{Phase};
 ghost use Rattle.retained_rights.specs.Rules.{Meets};
-ghost use Rattle.retained_rights.specs.Rights.{Fit, no_rights, usable_of, add_fault, IsRefusal, bits_under, without_object, all_moved, all_revised};
+ghost use Rattle.retained_rights.specs.Rights.{Fit, follows_of, no_rights, usable_of, add_fault, IsRefusal, bits_under, without_object, all_moved, all_revised};
+ghost use Rattle.retained_rights.specs.Claims.{claims_of, not_for, all_relabelled, following_for, IsUseOf, IsUnused};
 
 use crate::grant::{AddFault, Grant, Usable};
 use crate::rule::{Callback, Rule};
@@ -37,28 +41,13 @@ pub struct Grants<F: Callback> {
 }
 
 impl<F: Callback> Model for Grants<F> {
-    ghost use Rattle.std.specs.Prelude.{ℕ, List, refl};
-    ghost use Rattle.std.specs.FinMap as maps;
-    ghost use Rattle.std.specs.Ordering.{nat_cmp};
-    ghost use Rattle.std.specs.Coded.{code_by, coded×, coded_list, coded_ℕ};
-    ghost use Rattle.access_vectors.specs.contracts.class.Class as class_type;
-    ghost use Rattle.access_vectors.specs.contracts.phase.Phase as phase_type;
-    ghost use Rattle.access_vectors.specs.declared.class.Class.{Class};
-    ghost use Rattle.access_vectors.specs.declared.phase.Phase.{Phase};
     ghost use Rattle.slot_tables.specs.Words.{places};
-    ghost use Rattle.retained_rights.specs.contracts.rule.Rule as rule_type;
-    ghost use Rattle.retained_rights.specs.contracts.grant.Grant as grant_type;
-    ghost use Rattle.retained_rights.specs.declared.rule.Rule.{Rule};
-    ghost use Rattle.retained_rights.specs.declared.grant.Grant.{Grant};
-    ghost use Rattle.retained_rights.specs.Rights.{Rights};
+    ghost use Rattle.retained_rights.specs.Rights.{Rights, rights_code};
     ghost use Rattle.retained_rights.specs.Stored.{AreNumbered};
 
     ghost Value = { Rights };
 
-    ghost coded = { code_by (Rule × (Class × (Phase × (maps.FinMap nat_cmp Grant × List ℕ))))
-        (coded× rule_type.the_row.coded (coded× class_type.the_row.coded (coded× phase_type.the_row.coded (coded× (maps.code coded_ℕ grant_type.the_row.coded) (coded_list coded_ℕ)))))
-        (λ v. (v.rule, (v.class, (v.phase, (v.held, v.stale)))))
-        (λ p. record { rule = p.0; class = p.1.0; phase = p.1.1.0; held = p.1.1.1.0; stale = p.1.1.1.1 }) (λ _. refl) };
+    ghost coded = { rights_code };
 
     ghost view = { λ grants. record { rule = grants.ruled; class = grants.class; phase = grants.phase; held = grants.store.held; stale = places grants.store.words } };
 
@@ -113,6 +102,9 @@ impl<F: Callback> Grants<F> {
           bits = bits_under (A.decides asker.old) self.old.rule self.old.class (A.version asker.old) s t mode;
           number = number;
         })) }
+        ensures claims { OnOk result (claims_of self.new
+            ≡ maps.insert (claims_of self.old) (slot_place client slot) (record { object = object; mode = mode; s = s; t = t })) }
+        ensures follows { OnOk result (follows_of self.new ≡ maps.insert (follows_of self.old) (slot_place client slot) number) }
         ensures as_before { OnErr result (self.new ≡ self.old) }
         ensures fit { Fit (A.decides asker.old) self.new }
         ensures rule { self.new.rule ≡ self.old.rule }
@@ -145,7 +137,9 @@ impl<F: Callback> Grants<F> {
 
     /// What a client's slot lets it do, or `None` exactly where it holds no grant.
     pub fn usable(&self, client: u8, slot: u8) -> Option<Usable>
-        ensures { result ≡ option_map (usable_of self.now.phase) (maps.get self.now.held (slot_place client slot)) }
+        ensures is { result ≡ option_map (usable_of self.now.phase) (maps.get self.now.held (slot_place client slot)) }
+        ensures told { MatchOption result (IsUnused self.now (slot_place client slot))
+            (λ usable. (d : Decisions) → Fit d self.now → IsUseOf d self.now (slot_place client slot) usable) }
     {
         let grant = self.store.get(place_of(client, slot))?;
         let Grant {
@@ -171,6 +165,8 @@ impl<F: Callback> Grants<F> {
     pub fn drop_slot(&mut self, client: u8, slot: u8) -> bool
         ensures held_one { result ≡ is_some (maps.get self.old.held (slot_place client slot)) }
         ensures held { self.new.held ≡ maps.remove self.old.held (slot_place client slot) }
+        ensures claims { claims_of self.new ≡ maps.remove (claims_of self.old) (slot_place client slot) }
+        ensures follows { follows_of self.new ≡ maps.remove (follows_of self.old) (slot_place client slot) }
         ensures fit { (d : Decisions) → Fit d self.old → Fit d self.new }
         ensures rule { self.new.rule ≡ self.old.rule }
         ensures class { self.new.class ≡ self.old.class }
@@ -182,6 +178,8 @@ impl<F: Callback> Grants<F> {
     /// Frees every slot that holds the object. It takes no memory.
     pub fn drop_object(&mut self, object: u32)
         ensures held { self.new.held ≡ without_object object self.old.held }
+        ensures claims { claims_of self.new ≡ not_for object (claims_of self.old) (claims_of self.old) }
+        ensures follows { follows_of self.new ≡ not_for object (claims_of self.old) (follows_of self.old) }
         ensures fit { (d : Decisions) → Fit d self.old → Fit d self.new }
         ensures rule { self.new.rule ≡ self.old.rule }
         ensures class { self.new.class ≡ self.old.class }
@@ -205,6 +203,8 @@ impl<F: Callback> Grants<F> {
         requires version { A.version asker.old ≡ version_at self.old.phase number }
         ensures held { OnOk result (self.new.held
             ≡ all_moved (A.decides asker.old) self.old.rule self.old.class (A.version asker.old) object t number self.old.held) }
+        ensures claims { OnOk result (claims_of self.new ≡ all_relabelled object t (claims_of self.old)) }
+        ensures follows { OnOk result (follows_of self.new ≡ following_for object number (claims_of self.old) (follows_of self.old)) }
         ensures as_before { OnErr result (self.new ≡ self.old) }
         ensures fit { Fit (A.decides asker.old) self.new }
         ensures rule { self.new.rule ≡ self.old.rule }
@@ -247,6 +247,8 @@ impl<F: Callback> Grants<F> {
         ensures pending { OnOk result (self.new.phase ≡ Phase.Pending number old new) }
         ensures as_before { OnErr result (self.new ≡ self.old) }
         ensures held { self.new.held ≡ self.old.held }
+        ensures claims { claims_of self.new ≡ claims_of self.old }
+        ensures follows { follows_of self.new ≡ follows_of self.old }
         ensures fit { Fit (D.decides decider.now) self.new }
         ensures rule { self.new.rule ≡ self.old.rule }
         ensures class { self.new.class ≡ self.old.class }
@@ -272,7 +274,10 @@ impl<F: Callback> Grants<F> {
         ensures held { let number = number_of self.old.phase in self.new.held
             ≡ all_revised (D.decides decider.now) self.old.rule self.old.class (version_at self.old.phase number) number
             (take k self.old.stale) self.old.held }
-        ensures cost { steps.new ≤ steps.old + min k (length self.old.stale) }
+        ensures claims { claims_of self.new ≡ claims_of self.old }
+        ensures follows { follows_of self.new
+            ≡ now_following (take k self.old.stale) (number_of self.old.phase) (follows_of self.old) }
+        ensures cost { steps.new ≡ steps.old + min k (length self.old.stale) }
         ensures fit { Fit (D.decides decider.now) self.new }
         ensures rule { self.new.rule ≡ self.old.rule }
         ensures class { self.new.class ≡ self.old.class }
@@ -303,6 +308,8 @@ impl<F: Callback> Grants<F> {
         requires revised { length self.old.stale ≡ 0 }
         ensures phase { self.new.phase ≡ acknowledged self.old.phase }
         ensures held { self.new.held ≡ self.old.held }
+        ensures claims { claims_of self.new ≡ claims_of self.old }
+        ensures follows { follows_of self.new ≡ all_following (number_of self.old.phase) (follows_of self.old) }
         ensures fit { (d : Decisions) → Fit d self.old → Fit d self.new }
         ensures rule { self.new.rule ≡ self.old.rule }
         ensures class { self.new.class ≡ self.old.class }

@@ -130,7 +130,8 @@ pub(crate) fn move_all<F: Callback, A: Asker>(
     }
 }
 
-/// Lets the first `k` stale slots, or all where they are fewer, follow the pending number.
+/// Lets the first `k` stale slots, or all where they are fewer, follow the pending number. One tick of `steps` for each of
+/// them.
 pub(crate) fn revise_first<F: Callback, D: Decider, L: Ledger>(
     store: &mut Store,
     ruled: &Ruled<F>,
@@ -146,7 +147,7 @@ pub(crate) fn revise_first<F: Callback, D: Decider, L: Ledger>(
     ensures held { store.new.held ≡ all_revised (D.decides decider.now) ruled.now class (version_at phase (number_of phase)) (number_of phase)
         (take k (places store.old.words)) store.old.held }
     ensures good { IsGood (D.decides decider.now) ruled.now class phase store.new.held store.new.words }
-    ensures cost { steps.new ≤ steps.old + min k (length (places store.old.words)) }
+    ensures cost { steps.new ≡ steps.old + min k (length (places store.old.words)) }
 {
     let number = phase.number();
     let version = phase.version_at(number);

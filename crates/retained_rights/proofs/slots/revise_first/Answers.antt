@@ -3,7 +3,7 @@ use Rattle.slot_tables.specs.Words.{places}
 use Rattle.retained_rights.specs.Rules.{ruled}
 use Rattle.access_vectors.specs.Phases.{version_at}
 use Rattle.retained_rights.proofs.FitLemmas.{stale_held}
-use Rattle.retained_rights.proofs.SlotsLemmas.{IsRevised, revised_none, revised_step, revised_gets}
+use Rattle.retained_rights.proofs.SlotsLemmas.{IsRevised, revised_none, revised_step, revised_count, revised_gets}
 use Rattle.retained_rights.proofs.slots.revise_first.Goals as goal
 
 pub loop-place-init : goal.loop-place-init
@@ -49,3 +49,9 @@ pub returns-clause-held : goal.returns-clause-held
 returns-clause-held g c =
     let few : c.loop-place.left ≤ c.args.k = c.loop-place.invariant.1 in
     (revised_gets c.loop-place.invariant.0 c.args.k (omega arith) (ended c.args.k c.loop-place.left _ few c.in_default.ensures)).1
+
+pub returns-clause-cost : goal.returns-clause-cost
+returns-clause-cost g c =
+    let few : c.loop-place.left ≤ c.args.k = c.loop-place.invariant.1 in
+    c.loop-place.invariant.2
+    ∙ ap (λ n. c.args.steps.now + n) (revised_count c.loop-place.invariant.0 c.args.k (omega arith) (ended c.args.k c.loop-place.left _ few c.in_default.ensures))

@@ -1,3 +1,5 @@
+use Rattle.retained_rights.proofs.MapLemmas.{mapped-insert}
+use Rattle.retained_rights.proofs.ClaimLemmas.{claims_in, follows_in, follows_put}
 use Rattle.std.proofs.Common.{◌≡◌, None, cond, eqb, sym, ap, ◌∙◌}
 use Rattle.std.specs.FinMap as maps
 use Rattle.std.specs.Option.{is_some}
@@ -59,3 +61,14 @@ returns-clause-fit g c =
     })
     (λ q. c.in-Ok.ensures.stale q ∙ listed_put words c.place_of-place.result c.becomes_stale-is_stale.result q (free_fresh good c.place_of-place.result free)
     ∙ ap (λ b. cond (eqb q c.place_of-place.result) b (holds words q)) c.becomes_stale-is_stale.ensures.stale))
+
+pub returns-clause-claims : goal.returns-clause-claims
+returns-clause-claims g c =
+    let held = c.self.inside.store.held in
+    rw (← c.self.view_is, ← c.place_of-place.ensures) (ap claims_in c.in-Ok.ensures.held ∙ mapped-insert _ held c.place_of-place.result _)
+
+pub returns-clause-follows : goal.returns-clause-follows
+returns-clause-follows g c =
+    let held = c.self.inside.store.held in
+    rw (← c.self.view_is, ← c.place_of-place.ensures)
+    (ap (follows_in c.self.inside.phase) c.in-Ok.ensures.held ∙ follows_put c.self.inside.phase held c.place_of-place.result _ (rw (← c.self.view_is) at c.requires.named))

@@ -1,3 +1,4 @@
+use Rattle.retained_rights.proofs.ClaimLemmas.{claims_in, follows_in, claims_moved, follows_moved}
 use Rattle.std.proofs.Common.{◌≤◌, sym, ap, ◌∙◌}
 use Rattle.std.specs.FinMap as maps
 use Rattle.access_vectors.specs.Phases.{MayName, number_of}
@@ -23,3 +24,18 @@ invariant_of-self-2 g c =
 
 pub returns-clause-fit : goal.returns-clause-fit
 returns-clause-fit g c = fit_from_good c.move_all.new.store.held c.move_all.new.store.words c.move_all.ensures.good
+
+pub returns-clause-claims : goal.returns-clause-claims
+returns-clause-claims g c =
+    let held = c.make_pairs.new.self.held in
+    rw (← c.self.view_is, ← c.make_pairs.ensures.held)
+    (ap claims_in c.move_all.ensures.held
+    ∙ claims_moved (g.A.Asker.decides c.args.asker.now) c.self.inside.ruled c.self.inside.class (g.A.Asker.version c.args.asker.now) c.args.object c.args.t c.args.number held)
+
+pub returns-clause-follows : goal.returns-clause-follows
+returns-clause-follows g c =
+    let held = c.make_pairs.new.self.held in
+    rw (← c.self.view_is, ← c.make_pairs.ensures.held)
+    (ap (follows_in c.self.inside.phase) c.move_all.ensures.held
+    ∙ follows_moved (g.A.Asker.decides c.args.asker.now) c.self.inside.ruled c.self.inside.class (g.A.Asker.version c.args.asker.now) c.args.object c.args.t c.args.number
+    c.self.inside.phase held (rw (← c.self.view_is) at c.requires.named))

@@ -1,3 +1,5 @@
+use Rattle.std.proofs.Common.{ap, ◌∙◌}
+use Rattle.retained_rights.proofs.ClaimLemmas.{claims_in, follows_in, claims_revised, follows_revised}
 use Rattle.access_vectors.specs.Phases.{number_of}
 use Rattle.retained_rights.specs.Good.{IsGood}
 use Rattle.retained_rights.proofs.FitLemmas.{good_from_fit, fit_from_good, numbered_mapped, number_either, not_above}
@@ -17,3 +19,16 @@ invariant_of-self g c =
 
 pub returns-clause-fit : goal.returns-clause-fit
 returns-clause-fit g c = fit_from_good c.revise_first.new.store.held c.revise_first.new.store.words c.revise_first.ensures.good
+
+pub returns-clause-claims : goal.returns-clause-claims
+returns-clause-claims g c =
+    rw (← c.self.view_is)
+    (ap claims_in c.revise_first.ensures.held
+    ∙ claims_revised (g.D.Decider.decides c.args.decider.now) c.self.inside.ruled c.self.inside.class _ _ (number_of c.self.inside.phase) c.self.inside.store.held)
+
+pub returns-clause-follows : goal.returns-clause-follows
+returns-clause-follows g c =
+    rw (← c.self.view_is)
+    (ap (follows_in c.self.inside.phase) c.revise_first.ensures.held
+    ∙ follows_revised (g.D.Decider.decides c.args.decider.now) c.self.inside.ruled c.self.inside.class _ _ c.self.inside.phase c.self.inside.store.held
+    (rw (← c.self.view_is) at c.requires.pending))

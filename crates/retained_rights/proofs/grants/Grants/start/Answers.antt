@@ -1,3 +1,6 @@
+use Rattle.access_vectors.specs.declared.phase.Phase.TheVariants.{Pending}
+use Rattle.std.proofs.Common.{sym, ap, ◌∙◌}
+use Rattle.retained_rights.proofs.ClaimLemmas.{claims_in, follows_in, follows_started}
 use Rattle.std.proofs.Common.{◌≡◌, ◌-◌, refl, subst}
 use Rattle.access_vectors.specs.declared.phase.Phase.TheVariants.{Settled}
 use Rattle.retained_rights.specs.Good.{IsGood}
@@ -33,3 +36,15 @@ returns-clause-fit g c =
     (good_same (good_started c.args.number c.args.old c.args.new c.mark.new.self.words (subst (λ p. IsGood d c.self.inside.ruled c.self.inside.class p held words) settled good)
     (subst (λ p. AreNumbered p held) settled c.self.invariant) c.requires.next c.requires.old_version c.requires.new_version c.mark.ensures.stale)
     c.mark.new.self.held c.mark.new.self.words c.mark.ensures.held (λ q. refl))
+
+pub returns-clause-claims : goal.returns-clause-claims
+returns-clause-claims g c = rw (← c.self.view_is) (ap claims_in c.mark.ensures.held)
+
+pub returns-clause-follows : goal.returns-clause-follows
+returns-clause-follows g c =
+    let held = c.self.inside.store.held in
+    let settled : c.self.inside.phase ≡ Settled (c.args.number - 1) c.args.old = rw (← c.self.view_is) at c.requires.settled in
+    rw (← c.self.view_is)
+    (ap (follows_in (Pending c.args.number c.args.old c.args.new)) c.mark.ensures.held
+    ∙ follows_started held c.args.number c.args.old c.args.new c.requires.next (subst (λ p. AreNumbered p held) settled c.self.invariant)
+    ∙ ap (λ p. follows_in p held) (sym settled))
