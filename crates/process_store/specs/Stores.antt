@@ -1,17 +1,19 @@
 -- How processes and rights show the plain manager's state: a slot holds a grant on a numbered process.
-use Rattle.std.specs.Prelude.{◌≡◌, ℕ, ◌/◌, ◌≤◌, IsTrue, List, slice_index, Some}
+use Rattle.std.specs.Prelude.{◌≡◌, ℕ, ◌/◌, IsTrue, List, slice_index, Some, refl}
 use Rattle.std.specs.Ordering.{nat_cmp}
 use Rattle.std.specs.FinMap as maps
 use Rattle.std.specs.FinMap.{FinMap}
+use Rattle.std.specs.Coded.{Coded, code_by, coded×, coded_ℕ}
 use Rattle.access_vectors.specs.Decisions.{Decisions}
 use Rattle.access_vectors.specs.Mapped.{mapped}
-use Rattle.access_vectors.specs.Phases.{number_of}
 use Rattle.access_vectors.specs.Stale.{Follows}
 use Rattle.access_vectors.specs.declared.class.Class.TheVariants as class
-use Rattle.retained_rights.specs.Rights.{Rights, Fit, follows_of}
-use Rattle.retained_rights.specs.declared.grant.Grant.{Grant}
+use Rattle.retained_rights.specs.Claims.{Claim, Claims, claims_of, AreInStep}
+use Rattle.retained_rights.specs.Rights.{Rights, Fit, follows_of, rights_code}
 use Rattle.retained_rights.specs.declared.rule.Rule.TheVariants.{All}
 use Rattle.process_calls.specs.States.{ProcessState, IsOpening, attach_mode}
+use Rattle.process_calls.specs.contracts.opening.ProcessOpening as opening_type
+use Rattle.process_calls.specs.contracts.process.Process as process_type
 use Rattle.process_calls.specs.declared.opening.ProcessOpening.{ProcessOpening}
 use Rattle.process_calls.specs.declared.process.Process.{Process}
 
@@ -25,13 +27,19 @@ pub record Shown : Type 0 where
   pub processes : Numbered
   pub rights : Rights
 
--- the plain slots: a grant on a numbered process is attached to it
-abbrev pub slots_of : FinMap nat_cmp Grant → FinMap nat_cmp ℕ
-slots_of held = mapped (λ place grant. grant.object) held
+-- how contracts tell such values apart
+abbrev pub shown_code : Coded Shown
+shown_code =
+    code_by (ProcessOpening × (Numbered × Rights)) (coded× opening_type.the_row.coded (coded× (maps.code coded_ℕ process_type.the_row.coded) rights_code))
+    (λ v. (v.opening, (v.processes, v.rights))) (λ p. record { opening = p.0; processes = p.1.0; rights = p.1.1 }) (λ _. refl)
+
+-- the plain slots: one that is for a numbered process is attached to it
+abbrev pub slots_of : Claims → FinMap nat_cmp ℕ
+slots_of claims = mapped (λ place claim. claim.object) claims
 
 -- the state that the plain manager sees
 abbrev pub state_of : Shown → ProcessState
-state_of shown = record { opening = shown.opening; processes = shown.processes; slots = slots_of shown.rights.held }
+state_of shown = record { opening = shown.opening; processes = shown.processes; slots = slots_of (claims_of shown.rights) }
 
 -- the policy number that each used slot follows
 abbrev pub follows : Shown → Follows
@@ -43,20 +51,16 @@ pub record IsProcessOf (processes : Numbered) (pid : ℕ) (label : ℕ) : Type 0
   pub held : maps.get processes pid ≡ Some process
   pub label_is : process.label ≡ label
 
--- the grant of a slot is on a process, for the pair of the client and of the process's present label, in the mode of every
--- attached slot, and its number is no newer than the newest
-pub record IsLinked (clients : List ℕ) (processes : Numbered) (newest : ℕ) (place : ℕ) (grant : Grant) : Type 0 where
-  pub target : IsProcessOf processes grant.object grant.t
-  pub source : slice_index clients (place / 256) ≡ grant.s
-  pub mode : grant.mode ≡ attach_mode
-  pub number : grant.number ≤ newest
+-- a slot is for a process, and for the pair of its client and of the process's present label, in the mode of every attached
+-- slot
+pub record IsLinked (clients : List ℕ) (processes : Numbered) (place : ℕ) (claim : Claim) : Type 0 where
+  pub target : IsProcessOf processes claim.object claim.t
+  pub source : slice_index clients (place / 256) ≡ claim.s
+  pub mode : claim.mode ≡ attach_mode
 
 -- processes and rights are in step
-pub record IsInStep (shown : Shown) : Type 0 where
-  pub linked : (place : ℕ) (grant : Grant) → maps.get shown.rights.held place ≡ Some grant
-      → IsLinked shown.opening.clients shown.processes (number_of shown.rights.phase) place grant
-  pub rule : shown.rights.rule ≡ All
-  pub class : shown.rights.class ≡ class.Process
+abbrev pub IsInStep : Shown → Type 0
+IsInStep shown = AreInStep All class.Process (IsLinked shown.opening.clients shown.processes) shown.rights
 
 -- they are in step, and the processes are as many as are counted
 pub record IsCounted (count : ℕ) (shown : Shown) : Type 0 where

@@ -1,3 +1,5 @@
+//! What a slot is attached with.
+
 use flask_sid::Sid;
 
 /// What a slot is attached with: a process by its number, and the identifiers of the client and of the process, under a

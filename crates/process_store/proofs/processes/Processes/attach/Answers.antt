@@ -1,18 +1,20 @@
-use Rattle.std.proofs.Common.{ℕ, IsTrue, sym, subst}
+use Rattle.std.proofs.Common.{ℕ, IsTrue, sym, ap, subst, ◌∙◌}
 use Rattle.access_vectors.specs.Decisions.{Decisions}
-use Rattle.access_vectors.specs.Phases.{number_of}
 use Rattle.access_vectors.specs.Stale.{slot_place}
-use Rattle.access_vectors.specs.declared.class.Class.{Class}
-use Rattle.retained_rights.specs.Rights.{Fit, bits_under}
-use Rattle.retained_rights.specs.declared.rule.Rule.{Rule}
-use Rattle.retained_rights.specs.declared.grant.Grant.{Grant}
 use Rattle.slot_tables.specs.Slots.{map_of}
-use Rattle.process_store.specs.Stores.{Shown}
+use Rattle.retained_rights.specs.Claims.{Claim, claims_of}
+use Rattle.retained_rights.specs.Rights.{Fit}
+use Rattle.retained_rights.proofs.MapLemmas.{mapped-insert}
+use Rattle.retained_rights.proofs.StepLemmas.{step_filled}
+use Rattle.process_store.specs.Stores.{Shown, IsLinked, slots_of}
 use Rattle.process_store.specs.Laws.{safe_is}
 use Rattle.process_store.specs.declared.attachment.Attachment.{Attachment}
-use Rattle.process_store.proofs.Linking.{AreLinked, link_filled, linked_filled, linked_as, step_changed, safe_changed, process_known}
-use Rattle.process_store.proofs.StateLemmas.{state_filled, follows_filled_is}
+use Rattle.process_store.proofs.Linking.{link_filled, safe_changed, state_changed, process_known}
 use Rattle.process_store.proofs.processes.Processes.attach.Goals as goal
+
+-- what the attached slot is for
+abbrev claim_of : ℕ → Attachment → Claim
+claim_of mode attachment = record { object = attachment.pid; mode = mode; s = attachment.s; t = attachment.t }
 
 pub vector_at-vector-requires-clause-target : goal.vector_at-vector-requires-clause-target
 vector_at-vector-requires-clause-target g c =
@@ -30,56 +32,28 @@ add-requires-clause-target g c =
     subst (λ (d : Decisions). IsTrue (d.known c.args.attachment.t)) (sym c.vector_at-vector.ensures.decides)
     (process_known (g.A.Asker.decides c.args.asker.now) shown c.args.attachment.pid c.args.attachment.t (rw (← c.self.view_is) at c.requires.safe) (rw (← c.self.view_is) at c.requires.target))
 
--- the grant that an asker's decider gives
-abbrev grant_of : Decisions → Rule → Class → ℕ → ℕ → Attachment → Grant
-grant_of d rule class version mode attachment = record {
-  object = attachment.pid;
-  s = attachment.s;
-  t = attachment.t;
-  mode = mode;
-  bits = bits_under d rule class version attachment.s attachment.t mode;
-  number = attachment.number;
-}
-
 pub invariant_of-self-2 : goal.invariant_of-self-2
 invariant_of-self-2 g c =
     let shown : Shown = record { opening = c.self.inside.opening; processes = map_of c.self.inside.table; rights = c.self.inside.grants } in
-    let asker = c.vector_at-vector.new.self in
-    let grant = grant_of (g.A.Asker.decides asker) shown.rights.rule shown.rights.class (g.A.Asker.version asker) c.of.result c.args.attachment in
+    let claim = claim_of c.of.result c.args.attachment in
     record {
       count_is = c.self.invariant.count_is;
-      step = step_changed shown c.add.new.self c.self.invariant.step c.add.ensures.rule c.add.ensures.class
-          (linked_as shown.opening.clients shown.processes shown.rights c.add.new.self c.add.ensures.phase
-          (subst (AreLinked shown.opening.clients shown.processes (number_of shown.rights.phase)) (sym c.in-Ok.ensures.held)
-          (linked_filled shown.opening.clients shown.processes (number_of shown.rights.phase) shown.rights.held (slot_place c.args.client c.args.slot) grant c.self.invariant.step.linked
-          (link_filled shown c.args.client c.args.slot grant c.ranges.slot.fits (rw (← c.self.view_is) at c.requires.target) (rw (← c.self.view_is) at c.requires.source) c.of.ensures (rw (← c.self.view_is) at c.requires.named)))));
+      step = step_filled c.self.invariant.step c.add.new.self c.add.ensures.rule c.add.ensures.class (IsLinked shown.opening.clients shown.processes) (slot_place c.args.client c.args.slot) claim
+          c.in-Ok.ensures.claims (λ place one link. link)
+          (link_filled shown c.args.client c.args.slot claim c.ranges.slot.fits (rw (← c.self.view_is) at c.requires.target) (rw (← c.self.view_is) at c.requires.source) c.of.ensures);
     }
 
 pub returns-clause-state : goal.returns-clause-state
 returns-clause-state g c =
     let shown : Shown = record { opening = c.self.inside.opening; processes = map_of c.self.inside.table; rights = c.self.inside.grants } in
-    let asker = c.vector_at-vector.new.self in
-    let grant = grant_of (g.A.Asker.decides asker) shown.rights.rule shown.rights.class (g.A.Asker.version asker) c.of.result c.args.attachment in
-    rw (← c.self.view_is) (state_filled shown c.add.new.self (slot_place c.args.client c.args.slot) grant c.in-Ok.ensures.held)
-
-pub returns-clause-follows : goal.returns-clause-follows
-returns-clause-follows g c =
-    let shown : Shown = record { opening = c.self.inside.opening; processes = map_of c.self.inside.table; rights = c.self.inside.grants } in
-    let asker = c.vector_at-vector.new.self in
-    let grant = grant_of (g.A.Asker.decides asker) shown.rights.rule shown.rights.class (g.A.Asker.version asker) c.of.result c.args.attachment in
-    rw (← c.self.view_is)
-    (follows_filled_is shown c.add.new.self (slot_place c.args.client c.args.slot) grant c.add.ensures.phase c.in-Ok.ensures.held
-    (rw (← c.self.view_is) at c.requires.named))
+    rw (← c.self.view_is) (state_changed shown c.add.new.self _ (ap slots_of c.in-Ok.ensures.claims ∙ mapped-insert _ (claims_of shown.rights) _ _))
 
 pub returns-clause-safe : goal.returns-clause-safe
 returns-clause-safe g c =
     let shown : Shown = record { opening = c.self.inside.opening; processes = map_of c.self.inside.table; rights = c.self.inside.grants } in
-    let asker = c.vector_at-vector.new.self in
-    let grant = grant_of (g.A.Asker.decides asker) shown.rights.rule shown.rights.class (g.A.Asker.version asker) c.of.result c.args.attachment in
+    let claim = claim_of c.of.result c.args.attachment in
     safe_changed (g.A.Asker.decides c.args.asker.now) shown c.add.new.self (rw (← c.self.view_is) at c.requires.safe)
-    (step_changed shown c.add.new.self c.self.invariant.step c.add.ensures.rule c.add.ensures.class
-    (linked_as shown.opening.clients shown.processes shown.rights c.add.new.self c.add.ensures.phase
-    (subst (AreLinked shown.opening.clients shown.processes (number_of shown.rights.phase)) (sym c.in-Ok.ensures.held)
-    (linked_filled shown.opening.clients shown.processes (number_of shown.rights.phase) shown.rights.held (slot_place c.args.client c.args.slot) grant c.self.invariant.step.linked
-    (link_filled shown c.args.client c.args.slot grant c.ranges.slot.fits (rw (← c.self.view_is) at c.requires.target) (rw (← c.self.view_is) at c.requires.source) c.of.ensures (rw (← c.self.view_is) at c.requires.named))))))
+    (step_filled c.self.invariant.step c.add.new.self c.add.ensures.rule c.add.ensures.class (IsLinked shown.opening.clients shown.processes) (slot_place c.args.client c.args.slot) claim
+    c.in-Ok.ensures.claims (λ place one link. link)
+    (link_filled shown c.args.client c.args.slot claim c.ranges.slot.fits (rw (← c.self.view_is) at c.requires.target) (rw (← c.self.view_is) at c.requires.source) c.of.ensures))
     (subst (λ (d : Decisions). Fit d c.add.new.self) c.vector_at-vector.ensures.decides c.add.ensures.fit)

@@ -3,7 +3,7 @@ use Rattle.process_store.specs.Stores.{Shown}
 use Rattle.process_store.specs.Laws.{safe_is}
 use Rattle.slot_tables.proofs.SlotLemmas.{used_within}
 use Rattle.std.specs.FinMap as maps
-use Rattle.process_store.proofs.MapLemmas.{some_of}
+use Rattle.retained_rights.proofs.MapLemmas.{some_of}
 use Rattle.process_store.proofs.ChangeLemmas.{counted_relabelled, safe_relabelled, state_relabelled, follows_relabelled}
 use Rattle.process_store.proofs.processes.Processes.relabel.Goals as goal
 
@@ -22,26 +22,27 @@ pub invariant_of-self-2 : goal.invariant_of-self-2
 invariant_of-self-2 g c =
     let shown : Shown = record { opening = c.self.inside.opening; processes = map_of c.self.inside.table; rights = c.self.inside.grants } in
     let moved = c.relabel.ensures in
-    counted_relabelled shown c.args.pid c.args.process (rw (← c.self.view_is) at c.requires.there) c.args.number (rw (← c.self.view_is) at c.requires.named) (g.A.Asker.decides c.args.asker.now) (g.A.Asker.version c.args.asker.now)
-    (map_of c.set.new.self) c.relabel.new.self c.set.ensures.map c.in_ok-relabel.ensures.held moved.phase moved.rule moved.class c.self.invariant.step c.self.inside.kept c.self.invariant.count_is
+    counted_relabelled shown c.args.pid c.args.process (rw (← c.self.view_is) at c.requires.there) (map_of c.set.new.self) c.relabel.new.self c.set.ensures.map
+    moved.rule moved.class c.in_ok-relabel.ensures.claims c.self.invariant.step c.self.inside.kept c.self.invariant.count_is
 
 pub returns-clause-state : goal.returns-clause-state
 returns-clause-state g c =
     let shown : Shown = record { opening = c.self.inside.opening; processes = map_of c.self.inside.table; rights = c.self.inside.grants } in
     let moved = c.relabel.ensures in
-    rw (← c.self.view_is) (state_relabelled shown c.args.pid c.args.process (rw (← c.self.view_is) at c.requires.there) c.args.number (rw (← c.self.view_is) at c.requires.named) (g.A.Asker.decides c.args.asker.now) (g.A.Asker.version c.args.asker.now)
-    (map_of c.set.new.self) c.relabel.new.self c.set.ensures.map c.in_ok-relabel.ensures.held moved.phase moved.rule moved.class c.self.invariant.step)
+    rw (← c.self.view_is) (state_relabelled shown c.args.pid c.args.process (rw (← c.self.view_is) at c.requires.there) (map_of c.set.new.self) c.relabel.new.self c.set.ensures.map
+    moved.rule moved.class c.in_ok-relabel.ensures.claims c.self.invariant.step)
 
 pub returns-clause-follows : goal.returns-clause-follows
 returns-clause-follows g c =
     let shown : Shown = record { opening = c.self.inside.opening; processes = map_of c.self.inside.table; rights = c.self.inside.grants } in
     let moved = c.relabel.ensures in
-    rw (← c.self.view_is) (follows_relabelled shown c.args.pid c.args.process (rw (← c.self.view_is) at c.requires.there) c.args.number (rw (← c.self.view_is) at c.requires.named) (g.A.Asker.decides c.args.asker.now) (g.A.Asker.version c.args.asker.now)
-    (map_of c.set.new.self) c.relabel.new.self c.set.ensures.map c.in_ok-relabel.ensures.held moved.phase moved.rule moved.class c.self.invariant.step)
+    rw (← c.self.view_is) (follows_relabelled shown c.args.pid c.args.process (rw (← c.self.view_is) at c.requires.there) (map_of c.set.new.self) c.relabel.new.self c.set.ensures.map
+    moved.rule moved.class c.in_ok-relabel.ensures.claims c.self.invariant.step c.args.number c.in_ok-relabel.ensures.follows)
 
 pub returns-clause-safe : goal.returns-clause-safe
 returns-clause-safe g c =
     let shown : Shown = record { opening = c.self.inside.opening; processes = map_of c.self.inside.table; rights = c.self.inside.grants } in
     let moved = c.relabel.ensures in
-    safe_relabelled shown c.args.pid c.args.process (rw (← c.self.view_is) at c.requires.there) c.args.number (rw (← c.self.view_is) at c.requires.named) (g.A.Asker.decides c.args.asker.now) (g.A.Asker.version c.args.asker.now)
-    (map_of c.set.new.self) c.relabel.new.self c.set.ensures.map c.in_ok-relabel.ensures.held moved.phase moved.rule moved.class c.self.invariant.step c.requires.known (rw (← c.self.view_is) at c.requires.safe) moved.fit
+    safe_relabelled shown c.args.pid c.args.process (rw (← c.self.view_is) at c.requires.there) (map_of c.set.new.self) c.relabel.new.self c.set.ensures.map
+    moved.rule moved.class c.in_ok-relabel.ensures.claims c.self.invariant.step (g.A.Asker.decides c.args.asker.now)
+    c.requires.known (rw (← c.self.view_is) at c.requires.safe) moved.fit

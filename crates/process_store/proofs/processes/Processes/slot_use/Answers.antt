@@ -6,4 +6,4 @@ use Rattle.process_store.proofs.processes.Processes.slot_use.Goals as goal
 pub returns : goal.returns
 returns g c =
     let shown : Shown = record { opening = c.self.inside.opening; processes = map_of c.self.inside.table; rights = c.self.inside.grants } in
-    rw (← c.self.view_is) (rw c.usable.ensures (use_of_slot shown c.args.client c.args.slot c.ranges.slot.fits))
+    rw (← c.self.view_is) (use_of_slot shown c.args.client c.args.slot c.usable.result c.ranges.slot.fits c.usable.ensures.told)
