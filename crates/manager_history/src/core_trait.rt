@@ -1,5 +1,6 @@
-ghost use Rattle.std.specs.Prelude.{◌≡◌, ℕ, ◌+◌, ◌-◌, ◌<◌, ◌≤◌, true, false, min};
+ghost use Rattle.std.specs.Prelude.{◌≡◌, ℕ, ◌+◌, ◌-◌, ◌<◌, true, false, min};
 ghost use Rattle.std.specs.Prelude.{List, [], Option, length, take, drop, is_some, IfOk, OnOk, OnErr, if◌then◌else◌};
+ghost use Rattle.std.specs.FinMap as maps;
 ghost use Rattle.access_vectors.specs.Decisions.{Decisions};
 ghost use Rattle.access_vectors.specs.Asking.{with_keys_of};
 ghost use Rattle.access_vectors.specs.Phases.{number_of, version_at, MayName, is_pending, acknowledged};
@@ -132,7 +133,7 @@ pub trait Core {
         ensures fits { fits (D.decides decider.now) self.new };
 
     /// Lets the first `k` stale slots, or all where they are fewer, follow the pending number. One tick of `steps` for
-    /// each of them at most. Answers how many are left. It takes no memory.
+    /// each of them. Answers how many are left. It takes no memory.
     fn revise<D: Decider, L: Ledger>(&mut self, decider: &D, k: u64, steps: &mut Steps<L>) -> u64
         requires fits { fits (D.decides decider.now) self.old }
         requires pending { is_pending (phase self.old) ≡ true }
@@ -140,7 +141,7 @@ pub trait Core {
         ensures stale { stale self.new ≡ drop k (stale self.old) }
         ensures follows { follows self.new
             ≡ now_following (take k (stale self.old)) (number_of (phase self.old)) (follows self.old) }
-        ensures cost { steps.new ≤ steps.old + min k (length (stale self.old)) }
+        ensures cost { steps.new ≡ steps.old + min k (length (stale self.old)) }
         ensures state { state self.new ≡ state self.old }
         ensures phase { phase self.new ≡ phase self.old }
         ensures opening { opening self.new ≡ opening self.old }
@@ -172,4 +173,8 @@ pub trait Core {
 
     /// Every used slot follows a policy number that may be named: the settled one where nothing is pending.
     ghost are_named: { (d : Decisions) (core : Self) → fits d core → AreNamed (phase core) (follows core) };
+
+    /// A slot is used, so that it has a pair, exactly where it follows a policy number.
+    ghost are_used: { (d : Decisions) (core : Self) → fits d core
+        → (place : ℕ) → is_some (pair_of (state core) place) ≡ is_some (maps.get (follows core) place) };
 }

@@ -198,15 +198,15 @@ impl<'d, C: Core, D: Decider> Keeper<'d, C, D> {
         Ok(number)
     }
 
-    /// Lets the first `k` stale slots, or all where they are fewer, follow the pending number, and answers how many are
-    /// left: 0 where nothing is pending. It takes no memory.
+    /// Lets the first `k` stale slots, or all where they are fewer, follow the pending number, with one tick of `steps` for
+    /// each of them, and answers how many are left: 0 where nothing is pending. It takes no memory.
     pub fn update<L: Ledger>(&mut self, k: u64, steps: &mut Steps<L>) -> u64
         ensures left { result ≡ length (C.stale self.new.core) }
         ensures stale { C.stale self.new.core ≡ drop k (C.stale self.old.core) }
         ensures follows { let revised = take k (C.stale self.old.core) in
             C.follows self.new.core ≡ now_following revised (number_of self.old.phase) (C.follows self.old.core) }
         ensures idle { is_pending self.old.phase ≡ false → result ≡ 0 }
-        ensures cost { steps.new ≤ steps.old + min k (length (C.stale self.old.core)) }
+        ensures cost { steps.new ≡ steps.old + min k (length (C.stale self.old.core)) }
         ensures state { C.state self.new.core ≡ C.state self.old.core }
         ensures history { self.new.history ≡ self.old.history }
         ensures phase { self.new.phase ≡ self.old.phase }
