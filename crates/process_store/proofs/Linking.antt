@@ -17,7 +17,7 @@ use Rattle.retained_rights.proofs.StepLemmas.{step_new, step_kept}
 use Rattle.process_calls.specs.States.{IsOpening, attach_mode, opened_with, with_slots}
 use Rattle.process_calls.specs.declared.opening.ProcessOpening.{ProcessOpening}
 use Rattle.process_calls.specs.declared.process.Process.{Process}
-use Rattle.process_store.specs.Stores.{Numbered, Shown, IsProcessOf, IsLinked, IsInStep, Safe, state_of, slots_of, follows}
+use Rattle.process_store.specs.Stores.{Numbered, Shown, IsProcessOf, IsLinked, IsInStep, IsCounted, Safe, state_of, slots_of, follows}
 use Rattle.process_store.specs.Laws.{safe_is}
 
 -- each label is the decider's
@@ -43,6 +43,10 @@ safe_changed d shown now safe step fit = safe_moved d shown shown.processes now 
 pub safe_kept : (d : Decisions) (shown : Shown) (now : Rights) → Safe d shown → now.rule ≡ shown.rights.rule → now.class ≡ shown.rights.class
     → claims_of now ≡ claims_of shown.rights → Fit d now → Safe d (with_rights shown now)
 safe_kept d shown now safe rule class claims fit = safe_changed d shown now safe (step_kept (safe_is d shown safe).step now rule class claims) fit
+
+pub counted_kept : (count : ℕ) (shown : Shown) (now : Rights) → IsCounted count shown → now.rule ≡ shown.rights.rule → now.class ≡ shown.rights.class
+    → claims_of now ≡ claims_of shown.rights → IsCounted count (with_rights shown now)
+counted_kept count shown now counted rule class claims = record { step = step_kept counted.step now rule class claims; count_is = counted.count_is }
 
 -- the state with other slots
 pub state_changed : (shown : Shown) (now : Rights) (slots : FinMap nat_cmp ℕ) → slots_of (claims_of now) ≡ slots → state_of (with_rights shown now) ≡ with_slots (state_of shown) slots
