@@ -30,8 +30,7 @@ pub struct PortCore<F: Callback> {
 }
 
 impl<F: Callback> Model for PortCore<F> {
-    ghost use Rattle.port_store.specs.Codes.{shown_code};
-    ghost use Rattle.port_store.specs.Stores.{Shown};
+    ghost use Rattle.port_store.specs.Stores.{Shown, shown_code};
 
     ghost Value = { Shown };
 
@@ -64,7 +63,7 @@ impl<F: Callback> Core for PortCore<F> {
     ghost use Rattle.port_calls.specs.States.{PortState, opened_with};
     ghost use Rattle.port_store.specs.Stores as stores;
     ghost use Rattle.port_store.specs.Stores.{Safe, state_of};
-    ghost use Rattle.port_store.specs.Laws.{stale_as_defined, follows_named};
+    ghost use Rattle.port_store.specs.Laws.{stale_as_defined, follows_named, used_as_followed};
 
     type Call = PortCall;
 
@@ -149,19 +148,23 @@ impl<F: Callback> Core for PortCore<F> {
         old: u8,
         new: u8,
     ) -> Result<u64, Memory> {
-        self.ports.start(decider, number, old, new)
+        let ports = &mut self.ports;
+        ports.grants.start(decider, number, old, new)
     }
 
     fn revise<D: Decider, L: Ledger>(&mut self, decider: &D, k: u64, steps: &mut Steps<L>) -> u64 {
-        self.ports.revise(decider, k, steps)
+        let ports = &mut self.ports;
+        ports.grants.revise(decider, k, steps)
     }
 
     fn left(&self) -> u64 {
-        self.ports.left()
+        let ports = &self.ports;
+        ports.grants.left()
     }
 
     fn settle(&mut self) {
-        self.ports.settle();
+        let ports = &mut self.ports;
+        ports.grants.settle();
     }
 
     ghost honest = { λ d at caller call number version. honest_answer d at caller call number version };
@@ -169,4 +172,6 @@ impl<F: Callback> Core for PortCore<F> {
     ghost are_stale = { λ d core fits. stale_as_defined d core fits };
 
     ghost are_named = { λ d core fits. follows_named d core fits };
+
+    ghost are_used = { λ d core fits. used_as_followed d core fits };
 }

@@ -1,12 +1,7 @@
 pub mod TableLemmas
 pub mod LabelLemmas
-pub mod MapLemmas
-pub mod Following
-pub mod Revising
-pub mod Linking
 pub mod StepLemmas
 pub mod StateLemmas
 pub mod ModeLemmas
 pub mod UseLemmas
 pub mod NewLemmas
-pub mod FillLemmas

@@ -1,17 +1,18 @@
 -- How bound ports and rights show the plain manager's state: a slot holds a grant on a port that is bound.
-use Rattle.std.specs.Prelude.{◌≡◌, ℕ, ◌/◌, ◌<◌, ◌≤◌, true, slice_index, is_some, Some}
+use Rattle.std.specs.Prelude.{◌≡◌, ℕ, ◌/◌, ◌<◌, true, List, slice_index, is_some, refl}
 use Rattle.std.specs.Ordering.{nat_cmp}
 use Rattle.std.specs.FinMap as maps
 use Rattle.std.specs.FinMap.{FinMap}
+use Rattle.std.specs.Coded.{Coded, code_by, coded×, coded_list, coded_ℕ}
 use Rattle.access_vectors.specs.Decisions.{Decisions}
 use Rattle.access_vectors.specs.Mapped.{mapped}
-use Rattle.access_vectors.specs.Phases.{number_of}
 use Rattle.access_vectors.specs.Stale.{Follows}
 use Rattle.access_vectors.specs.declared.class.Class.TheVariants.{Port}
-use Rattle.retained_rights.specs.Rights.{Rights, Fit, follows_of}
-use Rattle.retained_rights.specs.declared.grant.Grant.{Grant}
+use Rattle.retained_rights.specs.Claims.{Claim, Claims, claims_of, AreInStep}
+use Rattle.retained_rights.specs.Rights.{Rights, Fit, follows_of, rights_code}
 use Rattle.retained_rights.specs.declared.rule.Rule.TheVariants as rules
 use Rattle.port_calls.specs.States.{Bound, Held, PortState, IsOpening, label_of}
+use Rattle.port_calls.specs.contracts.opening.PortOpening as opening_type
 use Rattle.port_calls.specs.declared.opening.PortOpening.{PortOpening}
 
 -- the bound ports by their numbers
@@ -24,13 +25,28 @@ pub record Shown : Type 0 where
   pub ports : BoundPorts
   pub rights : Rights
 
--- the plain slots: a grant on a port holds that port
-abbrev pub slots_of : FinMap nat_cmp Grant → FinMap nat_cmp Held
-slots_of held = mapped (λ place grant. record { port = grant.object; mode = grant.mode }) held
+-- how contracts tell bound ports and such values apart
+abbrev pub bound_code : Coded Bound
+bound_code =
+    code_by (ℕ × List (List ℕ)) (coded× coded_ℕ (coded_list (coded_list coded_ℕ))) (λ bound. (bound.owner, bound.messages))
+    (λ pair. record { owner = pair.0; messages = pair.1 }) (λ _. refl)
+
+abbrev pub shown_code : Coded Shown
+shown_code =
+    code_by (PortOpening × (BoundPorts × Rights)) (coded× opening_type.the_row.coded (coded× (maps.code coded_ℕ bound_code) rights_code))
+    (λ v. (v.opening, (v.ports, v.rights))) (λ p. record { opening = p.0; ports = p.1.0; rights = p.1.1 }) (λ _. refl)
+
+-- what the plain slot holds
+abbrev pub held_by : Claim → Held
+held_by claim = record { port = claim.object; mode = claim.mode }
+
+-- the plain slots: one that is for a port holds that port
+abbrev pub slots_of : Claims → FinMap nat_cmp Held
+slots_of claims = mapped (λ place claim. held_by claim) claims
 
 -- the state that the plain manager sees
 abbrev pub state_of : Shown → PortState
-state_of shown = record { opening = shown.opening; ports = shown.ports; slots = slots_of shown.rights.held }
+state_of shown = record { opening = shown.opening; ports = shown.ports; slots = slots_of (claims_of shown.rights) }
 
 -- the policy number that each used slot follows
 abbrev pub follows : Shown → Follows
@@ -41,21 +57,16 @@ pub record IsMode (mode : ℕ) : Type 0 where
   pub some : 0 < mode
   pub within : mode < 16
 
--- the grant of a slot is on a bound port, for the pair of the client and of the port's label, and its number is no newer
--- than the newest
-pub record IsLinked (opening : PortOpening) (ports : BoundPorts) (newest : ℕ) (place : ℕ) (grant : Grant) : Type 0 where
-  pub bound : is_some (maps.get ports grant.object) ≡ true
-  pub target : label_of opening grant.object ≡ grant.t
-  pub source : slice_index opening.clients (place / 256) ≡ grant.s
-  pub mode : IsMode grant.mode
-  pub number : grant.number ≤ newest
+-- a slot is for a bound port, and for the pair of its client and of the port's label
+pub record IsLinked (opening : PortOpening) (ports : BoundPorts) (place : ℕ) (claim : Claim) : Type 0 where
+  pub bound : is_some (maps.get ports claim.object) ≡ true
+  pub target : label_of opening claim.object ≡ claim.t
+  pub source : slice_index opening.clients (place / 256) ≡ claim.s
+  pub mode : IsMode claim.mode
 
 -- ports and rights are in step
-pub record IsInStep (shown : Shown) : Type 0 where
-  pub linked : (place : ℕ) (grant : Grant) → maps.get shown.rights.held place ≡ Some grant
-      → IsLinked shown.opening shown.ports (number_of shown.rights.phase) place grant
-  pub rule : shown.rights.rule ≡ rules.All
-  pub class : shown.rights.class ≡ Port
+abbrev pub IsInStep : Shown → Type 0
+IsInStep shown = AreInStep rules.All Port (IsLinked shown.opening shown.ports) shown.rights
 
 -- the promise of ports and rights under a decider: they are in step, their identifiers are the decider's, and the rights
 -- are those that the decider gives

@@ -1,3 +1,5 @@
+//! The labels of ports.
+
 ghost use Rattle.std.specs.Prelude.{◌≡◌};
 ghost use Rattle.port_calls.specs.States.{label_in};
 

@@ -1,3 +1,5 @@
+//! A bound port, and the messages that wait there.
+
 ghost use Rattle.std.specs.Prelude.{◌≡◌, ◌<◌, ◌≤◌, [], length, slice_get, option_copied, IfOk};
 ghost use Rattle.port_calls.specs.States.{message_limit};
 ghost use Rattle.port_store.specs.Queues.{with_newest, without_oldest};
@@ -20,7 +22,7 @@ pub struct Queue {
 impl Model for Queue {
     ghost use Rattle.std.specs.Prelude.{◌≡◌};
     ghost use Rattle.port_calls.specs.States.{Bound, message_limit};
-    ghost use Rattle.port_store.specs.Codes.{bound_code};
+    ghost use Rattle.port_store.specs.Stores.{bound_code};
 
     ghost Value = { Bound };
 

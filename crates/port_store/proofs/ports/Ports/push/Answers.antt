@@ -3,8 +3,7 @@ use Rattle.slot_tables.specs.Slots.{map_of}
 use Rattle.port_store.specs.Stores.{Shown}
 use Rattle.port_store.specs.Laws.{safe_is}
 use Rattle.port_store.specs.Queues.{changed, with_newest}
-use Rattle.port_store.proofs.Linking.{safe_moved}
-use Rattle.port_store.proofs.StepLemmas.{step_changed}
+use Rattle.port_store.proofs.StepLemmas.{step_changed, safe_moved}
 use Rattle.port_store.proofs.StateLemmas.{state_pushed}
 use Rattle.port_store.proofs.ports.Ports.push.Goals as goal
 

@@ -2,8 +2,7 @@ use Rattle.slot_tables.specs.Slots.{map_of}
 use Rattle.port_store.specs.Stores.{Shown}
 use Rattle.port_store.specs.Laws.{safe_is}
 use Rattle.port_store.specs.Queues.{without_oldest}
-use Rattle.port_store.proofs.Linking.{safe_moved}
-use Rattle.port_store.proofs.StepLemmas.{step_changed}
+use Rattle.port_store.proofs.StepLemmas.{step_changed, safe_moved}
 use Rattle.port_store.proofs.StateLemmas.{state_popped}
 use Rattle.port_store.proofs.ports.Ports.take_oldest.Goals as goal
 
