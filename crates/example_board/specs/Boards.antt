@@ -1,26 +1,19 @@
 -- How the board and its rights show the plain board's state: a used slot holds a grant.
-use Rattle.std.specs.Prelude.{◌≡◌, ℕ, ◌/◌, ◌≤◌, List, Some, None, Result, Ok, Err, slice_index, IsTrue, bit_and, refl}
+use Rattle.std.specs.Prelude.{◌≡◌, ℕ, ◌/◌, List, Some, None, Result, Ok, Err, slice_index, IsTrue, bit_and, refl}
 use Rattle.std.specs.Ordering.{nat_cmp}
 use Rattle.std.specs.FinMap as maps
 use Rattle.std.specs.FinMap.{FinMap}
-use Rattle.std.specs.Coded.{Coded, code_by, coded×, coded_list, coded_ℕ}
+use Rattle.std.specs.Coded.{Coded, code_by, coded×, coded_ℕ}
 use Rattle.access_vectors.specs.Decisions.{Decisions}
 use Rattle.access_vectors.specs.Mapped.{mapped}
-use Rattle.access_vectors.specs.Phases.{number_of, version_at, MayName}
+use Rattle.access_vectors.specs.Phases.{version_at, MayName}
 use Rattle.access_vectors.specs.Stale.{Follows, slot_place}
-use Rattle.access_vectors.specs.contracts.class.Class as class_type
-use Rattle.access_vectors.specs.contracts.phase.Phase as phase_type
 use Rattle.access_vectors.specs.declared.asked.Asked.{Asked}
-use Rattle.access_vectors.specs.declared.class.Class.{Class}
 use Rattle.access_vectors.specs.declared.class.Class.TheVariants.{File}
-use Rattle.access_vectors.specs.declared.phase.Phase.{Phase}
 use Rattle.flask_sid.specs.declared.memory.Memory.{Memory}
-use Rattle.retained_rights.specs.Rights.{Rights, Fit, follows_of}
-use Rattle.retained_rights.specs.contracts.grant.Grant as grant_type
-use Rattle.retained_rights.specs.contracts.rule.Rule as rule_type
-use Rattle.retained_rights.specs.declared.grant.Grant.{Grant}
+use Rattle.retained_rights.specs.Claims.{Claim, Claims, claims_of, AreInStep}
+use Rattle.retained_rights.specs.Rights.{Rights, Fit, follows_of, rights_code}
 use Rattle.retained_rights.specs.declared.grant.Usable.{Usable}
-use Rattle.retained_rights.specs.declared.rule.Rule.{Rule}
 use Rattle.retained_rights.specs.declared.rule.Rule.TheVariants.{Each}
 use Rattle.example_board.specs.Plain.{BoardState, BoardAnswer, IsOpening, sid_of}
 use Rattle.example_board.specs.contracts.opening.BoardOpening as opening_type
@@ -36,41 +29,29 @@ pub record Shown : Type 0 where
 -- how contracts tell such values apart
 abbrev pub shown_code : Coded Shown
 shown_code =
-    code_by (BoardOpening × (ℕ × (Rule × (Class × (Phase × (maps.FinMap nat_cmp Grant × List ℕ))))))
-    (coded× opening_type.the_row.coded (coded× coded_ℕ (coded× rule_type.the_row.coded
-    (coded× class_type.the_row.coded (coded× phase_type.the_row.coded
-    (coded× (maps.code coded_ℕ grant_type.the_row.coded) (coded_list coded_ℕ)))))))
-    (λ v. (v.opening, (v.posted, (v.rights.rule, (v.rights.class, (v.rights.phase, (v.rights.held, v.rights.stale)))))))
-    (λ p. record {
-      opening = p.0;
-      posted = p.1.0;
-      rights = record { rule = p.1.1.0; class = p.1.1.1.0; phase = p.1.1.1.1.0; held = p.1.1.1.1.1.0; stale = p.1.1.1.1.1.1 };
-    }) (λ _. refl)
+    code_by (BoardOpening × (ℕ × Rights)) (coded× opening_type.the_row.coded (coded× coded_ℕ rights_code))
+    (λ v. (v.opening, (v.posted, v.rights))) (λ p. record { opening = p.0; posted = p.1.0; rights = p.1.1 }) (λ _. refl)
 
--- the plain slots: a grant's mode
-abbrev pub slots_of : FinMap nat_cmp Grant → FinMap nat_cmp ℕ
-slots_of held = mapped (λ place grant. grant.mode) held
+-- the plain slots: a used slot's mode
+abbrev pub slots_of : Claims → FinMap nat_cmp ℕ
+slots_of claims = mapped (λ place claim. claim.mode) claims
 
 -- the state that the plain board sees
 abbrev pub state_of : Shown → BoardState
-state_of shown = record { opening = shown.opening; posted = shown.posted; slots = slots_of shown.rights.held }
+state_of shown = record { opening = shown.opening; posted = shown.posted; slots = slots_of (claims_of shown.rights) }
 
 -- the policy number that each used slot follows
 abbrev pub follows : Shown → Follows
 follows shown = follows_of shown.rights
 
--- the grant of a slot is for the pair of the client and the board, and its number is no newer than the newest
-pub record IsLinked (opening : BoardOpening) (newest : ℕ) (place : ℕ) (grant : Grant) : Type 0 where
-  pub target : opening.label ≡ grant.t
-  pub source : slice_index opening.clients (place / 256) ≡ grant.s
-  pub number : grant.number ≤ newest
+-- a slot is for the pair of its client and the board
+pub record IsLinked (opening : BoardOpening) (place : ℕ) (claim : Claim) : Type 0 where
+  pub target : opening.label ≡ claim.t
+  pub source : slice_index opening.clients (place / 256) ≡ claim.s
 
 -- board and rights are in step
-pub record IsInStep (shown : Shown) : Type 0 where
-  pub linked : (place : ℕ) (grant : Grant) → maps.get shown.rights.held place ≡ Some grant
-      → IsLinked shown.opening (number_of shown.rights.phase) place grant
-  pub rule : shown.rights.rule ≡ Each
-  pub class : shown.rights.class ≡ File
+abbrev pub IsInStep : Shown → Type 0
+IsInStep shown = AreInStep Each File (IsLinked shown.opening) shown.rights
 
 -- the promise under a decider: board and rights are in step, the identifiers are the decider's, and the rights are those
 -- that the decider gives

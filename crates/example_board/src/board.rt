@@ -1,10 +1,10 @@
 //! The board and the rights of its slots, changed together.
 
-ghost use Rattle.std.specs.Prelude.{◌≡◌, ◌+◌, ◌-◌, ◌<◌, ◌≤◌, true, [], length, take, drop, min, IsTrue, IfOk, OnOk, OnErr, MatchOption};
+ghost use Rattle.std.specs.Prelude.{◌≡◌, ◌<◌, [], length, IsTrue, OnOk, OnErr, MatchOption};
 ghost use Rattle.std.specs.FinMap as maps;
 ghost use Rattle.access_vectors.specs.Decisions.{Decisions};
-ghost use Rattle.access_vectors.specs.Phases.{number_of, version_at, MayName, is_pending, acknowledged};
-ghost use Rattle.access_vectors.specs.Stale.{slot_place, now_following, all_following};
+ghost use Rattle.access_vectors.specs.Phases.{version_at, MayName};
+ghost use Rattle.access_vectors.specs.Stale.{slot_place};
 ghost use Rattle.access_vectors.specs.declared.phase.Phase.{Phase};
 ghost use Rattle.retained_rights.specs.Rules.{Meets};
 ghost use Rattle.retained_rights.specs.declared.rule.Rule.{Rule};
@@ -12,22 +12,22 @@ ghost use Rattle.example_board.specs.Plain.{IsOpening, opened_with, sid_of, with
 ghost use Rattle.example_board.specs.Boards.{Safe, IsUse, IsFree, state_of, follows};
 
 use crate::opening::BoardOpening;
-use access_vectors::{Asker, Class, Decider, Steps, Vector};
+use access_vectors::{Asker, Class, Vector};
 use flask_sid::{Memory, Sid};
 use retained_rights::{Callback, Grants, Rule, Usable};
 use std::alloc::Global;
 use std::marker::Model;
-use std::sync::ledger::Ledger;
 
 /// The number of the object that every grant is on: there is one board.
 const BOARD: u32 = 0;
 
-/// The number on the board, and a grant for each used slot. Contracts see a value `Shown`.
+/// The number on the board, and a grant for each used slot. Contracts see a value `Shown`. A change of policy is made on the
+/// grants themselves, and leaves what each is for.
 #[derive(Drop)]
 pub struct Board<F: Callback> {
     opening: BoardOpening,
     posted: u32,
-    grants: Grants<F>,
+    pub(crate) grants: Grants<F>,
 }
 
 impl<F: Callback> Model for Board<F> {
@@ -153,74 +153,5 @@ impl<F: Callback> Board<F> {
         ensures phase { self.new.rights.phase ≡ self.old.rights.phase }
     {
         let _held = self.grants.drop_slot(client, slot);
-    }
-
-    /// Begins a change: from the settled number with version `old` to `number`, the next one, with version `new`. Answers
-    /// how many slots are stale. After `Memory` all is as before.
-    pub fn start<D: Decider>(
-        &mut self,
-        decider: &D,
-        number: u32,
-        old: u8,
-        new: u8,
-    ) -> Result<u64, Memory>
-        requires safe { Safe (D.decides decider.now) self.old }
-        requires next { 0 < number }
-        requires settled { self.old.rights.phase ≡ Phase.Settled (number - 1) old }
-        requires old_version { old < (D.decides decider.now).versions }
-        requires new_version { new < (D.decides decider.now).versions }
-        ensures found { IfOk result (λ found. found ≡ length self.new.rights.stale) }
-        ensures pending { OnOk result (self.new.rights.phase ≡ Phase.Pending number old new) }
-        ensures as_before { OnErr result (self.new ≡ self.old) }
-        ensures state { state_of self.new ≡ state_of self.old }
-        ensures opening { self.new.opening ≡ self.old.opening }
-        ensures follows { follows self.new ≡ follows self.old }
-        ensures safe { Safe (D.decides decider.now) self.new }
-    {
-        let found = self.grants.start(decider, number, old, new)?;
-        Ok(found)
-    }
-
-    /// Lets the first `k` stale slots, or all where they are fewer, follow the pending number. One tick of `steps` for
-    /// each of them at most. Answers how many are left. It takes no memory.
-    pub fn revise<D: Decider, L: Ledger>(
-        &mut self,
-        decider: &D,
-        k: u64,
-        steps: &mut Steps<L>,
-    ) -> u64
-        requires safe { Safe (D.decides decider.now) self.old }
-        requires pending { is_pending self.old.rights.phase ≡ true }
-        ensures left { result ≡ length self.new.rights.stale }
-        ensures stale { self.new.rights.stale ≡ drop k self.old.rights.stale }
-        ensures follows { follows self.new
-            ≡ now_following (take k self.old.rights.stale) (number_of self.old.rights.phase) (follows self.old) }
-        ensures cost { steps.new ≤ steps.old + min k (length self.old.rights.stale) }
-        ensures state { state_of self.new ≡ state_of self.old }
-        ensures opening { self.new.opening ≡ self.old.opening }
-        ensures phase { self.new.rights.phase ≡ self.old.rights.phase }
-        ensures safe { Safe (D.decides decider.now) self.new }
-    {
-        self.grants.revise(decider, k, steps)
-    }
-
-    /// How many slots are stale.
-    pub fn left(&self) -> u64
-        ensures { result ≡ length self.now.rights.stale }
-    {
-        self.grants.left()
-    }
-
-    /// Ends the pending change, after which every used slot follows its number. It takes no memory.
-    pub fn settle(&mut self)
-        requires pending { is_pending self.old.rights.phase ≡ true }
-        requires revised { length self.old.rights.stale ≡ 0 }
-        ensures phase { self.new.rights.phase ≡ acknowledged self.old.rights.phase }
-        ensures follows { follows self.new ≡ all_following (number_of self.old.rights.phase) (follows self.old) }
-        ensures state { state_of self.new ≡ state_of self.old }
-        ensures opening { self.new.opening ≡ self.old.opening }
-        ensures safe { (d : Decisions) → Safe d self.old → Safe d self.new }
-    {
-        self.grants.settle();
     }
 }

@@ -58,7 +58,7 @@ impl<F: Callback> Core for BoardCore<F> {
     ghost use Rattle.example_board.specs.Plain.{BoardState, IsFormed, opened_with};
     ghost use Rattle.example_board.specs.Boards as boards;
     ghost use Rattle.example_board.specs.Boards.{Safe, state_of};
-    ghost use Rattle.example_board.specs.Laws.{stale_as_defined, follows_named};
+    ghost use Rattle.example_board.specs.Laws.{stale_as_defined, follows_named, used_as_followed};
 
     type Call = BoardCall;
 
@@ -123,19 +123,23 @@ impl<F: Callback> Core for BoardCore<F> {
         old: u8,
         new: u8,
     ) -> Result<u64, Memory> {
-        self.board.start(decider, number, old, new)
+        let board = &mut self.board;
+        board.grants.start(decider, number, old, new)
     }
 
     fn revise<D: Decider, L: Ledger>(&mut self, decider: &D, k: u64, steps: &mut Steps<L>) -> u64 {
-        self.board.revise(decider, k, steps)
+        let board = &mut self.board;
+        board.grants.revise(decider, k, steps)
     }
 
     fn left(&self) -> u64 {
-        self.board.left()
+        let board = &self.board;
+        board.grants.left()
     }
 
     fn settle(&mut self) {
-        self.board.settle();
+        let board = &mut self.board;
+        board.grants.settle();
     }
 
     ghost honest = { λ d at caller call number version. honest_answer d at caller call number version };
@@ -143,4 +147,6 @@ impl<F: Callback> Core for BoardCore<F> {
     ghost are_stale = { λ d core fits. stale_as_defined d core fits };
 
     ghost are_named = { λ d core fits. follows_named d core fits };
+
+    ghost are_used = { λ d core fits. used_as_followed d core fits };
 }

@@ -28,13 +28,9 @@ unfolding Safe
 safe_moved d shown ports now safe step fit = record { step = step; known = safe.known; rights = fit }
 
 -- where a change of policy leaves what the slots are for
-pub step_kept : (shown : Shown) (now : Rights) → IsInStep shown → now.rule ≡ shown.rights.rule → now.class ≡ shown.rights.class → claims_of now ≡ claims_of shown.rights
-    → IsInStep (with_rights shown now)
-step_kept shown now step rule class claims = steps.step_kept step now rule class claims
-
 pub safe_kept : (d : Decisions) (shown : Shown) (now : Rights) → Safe d shown → now.rule ≡ shown.rights.rule → now.class ≡ shown.rights.class
     → claims_of now ≡ claims_of shown.rights → Fit d now → Safe d (with_rights shown now)
-safe_kept d shown now safe rule class claims fit = safe_moved d shown shown.ports now safe (step_kept shown now (safe_is d shown safe).step rule class claims) fit
+safe_kept d shown now safe rule class claims fit = safe_moved d shown shown.ports now safe (steps.step_kept (safe_is d shown safe).step now rule class claims) fit
 
 -- a bound port is bound beside one that is bound now
 pub bound_beside : (ports : BoundPorts) (at : ℕ) (bound : Bound) (port : ℕ) → is_some (maps.get ports port) ≡ true → is_some (maps.get (maps.insert ports at bound) port) ≡ true

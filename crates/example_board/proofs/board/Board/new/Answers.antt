@@ -1,5 +1,4 @@
-use Rattle.example_board.proofs.StepLemmas.{step_opened, safe_opened}
-use Rattle.example_board.proofs.StateLemmas.{state_opened, follows_opened}
+use Rattle.example_board.proofs.StepLemmas.{step_opened, safe_opened, state_opened, follows_opened}
 use Rattle.example_board.proofs.board.Board.new.Goals as goal
 
 pub invariant_of-result : goal.invariant_of-result

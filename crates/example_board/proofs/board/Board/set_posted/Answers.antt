@@ -1,11 +1,9 @@
 use Rattle.example_board.specs.Boards.{Shown}
-use Rattle.example_board.proofs.StepLemmas.{step_posted, safe_posted}
+use Rattle.example_board.proofs.StepLemmas.{safe_posted}
 use Rattle.example_board.proofs.board.Board.set_posted.Goals as goal
 
 pub invariant_of-self : goal.invariant_of-self
-invariant_of-self g c =
-    let shown : Shown = record { opening = c.self.inside.opening; posted = c.self.inside.posted; rights = c.self.inside.grants } in
-    step_posted shown c.args.posted c.self.invariant
+invariant_of-self g c = c.self.invariant
 
 pub returns-clause-safe : goal.returns-clause-safe
 returns-clause-safe g c = λ d kept.

@@ -1,12 +1,13 @@
+use Rattle.retained_rights.proofs.StepLemmas.{step_kept}
 use Rattle.port_store.specs.Laws.{safe_is}
-use Rattle.port_store.proofs.StepLemmas.{step_kept, safe_kept}
+use Rattle.port_store.proofs.StepLemmas.{safe_kept}
 use Rattle.port_manager.proofs.port_core.PortCoreCore.start.Goals as goal
 
 pub start-requires-clause-fit : goal.start-requires-clause-fit
 start-requires-clause-fit g c = (safe_is (g.D.Decider.decides c.args.decider.now) _ (rw (← c.self.view_is, ← c.ports.view_is) at c.requires.fits)).rights
 
 pub invariant_of-ports : goal.invariant_of-ports
-invariant_of-ports g c = step_kept _ c.start.new.self c.ports.invariant c.start.ensures.rule c.start.ensures.class c.start.ensures.claims
+invariant_of-ports g c = step_kept c.ports.invariant c.start.new.self c.start.ensures.rule c.start.ensures.class c.start.ensures.claims
 
 pub returns-clause-fits : goal.returns-clause-fits
 returns-clause-fits g c =
