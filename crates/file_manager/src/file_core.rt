@@ -26,36 +26,11 @@ pub struct FileCore<F: Callback> {
 }
 
 impl<F: Callback> Model for FileCore<F> {
-    ghost use Rattle.std.specs.Prelude.{ℕ, List, refl};
-    ghost use Rattle.std.specs.Ordering.{nat_cmp};
-    ghost use Rattle.std.specs.FinMap as maps;
-    ghost use Rattle.std.specs.Coded.{code_by, coded×, coded_list, coded_ℕ};
-    ghost use Rattle.access_vectors.specs.contracts.class.Class as class_type;
-    ghost use Rattle.access_vectors.specs.contracts.phase.Phase as phase_type;
-    ghost use Rattle.access_vectors.specs.declared.class.Class.{Class};
-    ghost use Rattle.access_vectors.specs.declared.phase.Phase.{Phase};
-    ghost use Rattle.retained_rights.specs.contracts.grant.Grant as grant_type;
-    ghost use Rattle.retained_rights.specs.contracts.rule.Rule as rule_type;
-    ghost use Rattle.retained_rights.specs.declared.rule.Rule.{Rule};
-    ghost use Rattle.retained_rights.specs.declared.grant.Grant.{Grant};
-    ghost use Rattle.file_tree.specs.contracts.node.Node as node_type;
-    ghost use Rattle.file_tree.specs.Nodes.{Nodes};
-    ghost use Rattle.file_calls.specs.contracts.opening.FileOpening as opening_type;
-    ghost use Rattle.file_calls.specs.declared.opening.FileOpening.{FileOpening};
-    ghost use Rattle.file_store.specs.Stores.{Shown};
+    ghost use Rattle.file_store.specs.Stores.{Shown, shown_code};
 
     ghost Value = { Shown };
 
-    ghost coded = { code_by (FileOpening × (Nodes × (Rule × (Class × (Phase × (maps.FinMap nat_cmp Grant × List ℕ))))))
-        (coded× opening_type.the_row.coded (coded× (maps.code coded_ℕ node_type.the_row.coded) (coded× rule_type.the_row.coded
-        (coded× class_type.the_row.coded (coded× phase_type.the_row.coded
-        (coded× (maps.code coded_ℕ grant_type.the_row.coded) (coded_list coded_ℕ)))))))
-        (λ v. (v.opening, (v.nodes, (v.rights.rule, (v.rights.class, (v.rights.phase, (v.rights.held, v.rights.stale)))))))
-        (λ p. record {
-          opening = p.0;
-          nodes = p.1.0;
-          rights = record { rule = p.1.1.0; class = p.1.1.1.0; phase = p.1.1.1.1.0; held = p.1.1.1.1.1.0; stale = p.1.1.1.1.1.1 };
-        }) (λ _. refl) };
+    ghost coded = { shown_code };
 
     ghost view = { λ core. core.files };
 }
@@ -88,7 +63,7 @@ impl<F: Callback> Core for FileCore<F> {
     ghost use Rattle.file_calls.specs.States.{FileState, opened_with};
     ghost use Rattle.file_store.specs.Stores as stores;
     ghost use Rattle.file_store.specs.Stores.{Safe, state_of};
-    ghost use Rattle.file_store.specs.Laws.{stale_as_defined, follows_named};
+    ghost use Rattle.file_store.specs.Laws.{stale_as_defined, follows_named, used_as_followed};
 
     type Call = FileCall;
 
@@ -142,19 +117,23 @@ impl<F: Callback> Core for FileCore<F> {
         old: u8,
         new: u8,
     ) -> Result<u64, Memory> {
-        self.files.start(decider, number, old, new)
+        let files = &mut self.files;
+        files.grants.start(decider, number, old, new)
     }
 
     fn revise<D: Decider, L: Ledger>(&mut self, decider: &D, k: u64, steps: &mut Steps<L>) -> u64 {
-        self.files.revise(decider, k, steps)
+        let files = &mut self.files;
+        files.grants.revise(decider, k, steps)
     }
 
     fn left(&self) -> u64 {
-        self.files.left()
+        let files = &self.files;
+        files.grants.left()
     }
 
     fn settle(&mut self) {
-        self.files.settle();
+        let files = &mut self.files;
+        files.grants.settle();
     }
 
     ghost honest = { λ d at caller call number version. honest_answer d at caller call number version };
@@ -162,4 +141,6 @@ impl<F: Callback> Core for FileCore<F> {
     ghost are_stale = { λ d core fits. stale_as_defined d core fits };
 
     ghost are_named = { λ d core fits. follows_named d core fits };
+
+    ghost are_used = { λ d core fits. used_as_followed d core fits };
 }

@@ -18,7 +18,7 @@ use Rattle.file_calls.specs.Paths.{same_path}
 use Rattle.file_calls.specs.States.{laid, root_tree}
 use Rattle.file_calls.specs.declared.opening.Node.{Node}
 use Rattle.file_store.specs.Laying.{IsDirectoryAt, MayLay, HasLaid}
-use Rattle.file_store.proofs.MapLemmas.{some_same, none_some}
+use Rattle.retained_rights.proofs.MapLemmas.{some_same, none_some}
 
 true_or_false : (b : Bool) → (b ≡ true) ⊎ (b ≡ false)
 true_or_false true = inl refl

@@ -1,8 +1,4 @@
-pub mod MapLemmas
-pub mod Following
-pub mod Revising
 pub mod Linking
-pub mod StateLemmas
 pub mod UseLemmas
 pub mod ChangeLemmas
 pub mod StepLemmas

@@ -1,19 +1,20 @@
 -- Files as they are opened.
-use Rattle.std.proofs.Common.{◌≡◌, ◌<◌, refl, sym, ap, subst, ◌∙◌}
+use Rattle.std.proofs.Common.{◌≡◌, ◌<◌, sym, ap, subst, ◌∙◌}
 use Rattle.std.specs.FinMap as maps
 use Rattle.access_vectors.specs.Decisions.{Decisions}
 use Rattle.access_vectors.specs.declared.class.Class.TheVariants.{File}
 use Rattle.retained_rights.specs.Rights.{Rights, no_rights}
-use Rattle.retained_rights.specs.declared.grant.Grant.{Grant}
+use Rattle.retained_rights.specs.Claims.{claims_of}
 use Rattle.retained_rights.specs.declared.rule.Rule.TheVariants.{Each}
+use Rattle.retained_rights.proofs.MapLemmas.{mapped-empty}
+use Rattle.retained_rights.proofs.Opening.{fit_none}
+use Rattle.retained_rights.proofs.StepLemmas.{step_new}
 use Rattle.file_tree.specs.Nodes.{Nodes}
 use Rattle.file_tree.specs.Plain.{plain}
 use Rattle.file_calls.specs.Openings.{IsOpening}
 use Rattle.file_calls.specs.States.{laid, root_tree, opened_with}
 use Rattle.file_calls.specs.declared.opening.FileOpening.{FileOpening}
-use Rattle.file_store.specs.Stores.{Shown, IsWellMade, IsInStep, Safe, state_of, slots_of, follows}
-use Rattle.file_store.proofs.MapLemmas.{mapped-empty}
-use Rattle.file_store.proofs.Linking.{fit_new, none_held}
+use Rattle.file_store.specs.Stores.{Shown, IsWellMade, IsLinked, IsInStep, Safe, state_of, slots_of, follows}
 use Rattle.file_store.proofs.LayLemmas.{AreLabels, known_nodes, labels_laid, labels_root}
 
 abbrev pub opened : FileOpening → Nodes → Rights → Shown
@@ -21,14 +22,14 @@ opened opening nodes rights = record { opening = opening; nodes = nodes; rights 
 
 module _ (opening : FileOpening) (nodes : Nodes) (rights : Rights) (none : rights ≡ no_rights Each File) (made : IsWellMade nodes) where
   step_none : IsInStep (opened opening nodes (no_rights Each File))
-  step_none = record { tree = made; linked = λ place grant is. absurd (none_held place grant is); rule = refl; class = refl }
+  step_none = record { tree = made; slots = step_new Each File (IsLinked opening.clients nodes) }
 
   pub step_opened : IsInStep (opened opening nodes rights)
   step_opened = subst (λ now. IsInStep (opened opening nodes now)) (sym none) step_none
 
   module _ (stands : plain nodes ≡ laid (root_tree opening.root) opening.nodes) where
-    none_shown : slots_of nodes maps.empty ≡ maps.empty
-    none_shown = mapped-empty {V = Grant} _
+    none_shown : slots_of nodes (claims_of (no_rights Each File)) ≡ maps.empty
+    none_shown = ap (slots_of nodes) (mapped-empty _) ∙ mapped-empty _
 
     pub state_opened : state_of (opened opening nodes rights) ≡ opened_with opening
     state_opened = ap (λ now. state_of (opened opening nodes now)) none ∙ (λ i. record { opening = opening; tree = stands i; slots = none_shown i })
@@ -40,7 +41,7 @@ module _ (opening : FileOpening) (nodes : Nodes) (rights : Rights) (none : right
       clients = is.0;
       labels = known_nodes d nodes made.mirrored
           (subst (AreLabels d) (sym stands) (labels_laid d (root_tree opening.root) opening.nodes (labels_root d opening.root is.1) is.2));
-      rights = fit_new d some;
+      rights = fit_none d Each File some;
     }
 
     pub safe_opened : (d : Decisions) → 0 < d.versions → IsOpening d opening → Safe d (opened opening nodes rights)

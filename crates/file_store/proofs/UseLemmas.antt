@@ -1,60 +1,39 @@
 -- What a look-up of a slot in the grants tells.
-use Rattle.std.proofs.Common.{◌≡◌, ℕ, ◌<◌, Option, Some, None, refl, sym, ap, ◌∙◌}
+use Rattle.std.proofs.Common.{◌≡◌, ℕ, ◌<◌, Option, None, Some, sym, ap, ◌∙◌}
 use Rattle.std.specs.Prelude.{option_map, slice_index, MatchOption}
-use Rattle.std.specs.FinMap as maps
 use Rattle.access_vectors.specs.Decisions.{Decisions}
 use Rattle.access_vectors.specs.Phases.{version_at}
 use Rattle.access_vectors.specs.Stale.{slot_place}
-use Rattle.access_vectors.specs.declared.class.Class.{Class}
-use Rattle.access_vectors.specs.declared.class.Class.TheVariants.{File}
 use Rattle.access_vectors.proofs.MappedLemmas.{get-mapped}
-use Rattle.retained_rights.specs.Rights.{followed, usable_of, bits_under}
-use Rattle.retained_rights.specs.declared.grant.Grant.{Grant}
+use Rattle.retained_rights.specs.Claims.{Claim, claims_of, IsUseOf, IsUnused}
+use Rattle.retained_rights.specs.Rights.{Fit, bits_under}
 use Rattle.retained_rights.specs.declared.grant.Usable.{Usable}
-use Rattle.retained_rights.specs.declared.rule.Rule.{Rule}
-use Rattle.retained_rights.specs.declared.rule.Rule.TheVariants.{Each}
-use Rattle.file_tree.specs.Nodes.{path_in}
-use Rattle.file_store.specs.Stores.{Shown, Safe}
+use Rattle.retained_rights.proofs.Following.{client_of_place}
+use Rattle.file_store.specs.Stores.{Shown, Safe, held_by}
 use Rattle.file_store.specs.Uses.{IsUse, IsFree}
-use Rattle.file_store.specs.Laws.{safe_is, fit_is}
-use Rattle.file_store.proofs.Following.{client_of_place, version_followed}
+use Rattle.file_store.specs.Laws.{safe_is}
 
--- a slot that holds a grant lets its client use it so
-use_is : (d : Decisions) (shown : Shown) (client slot : ℕ) (grant : Grant) → slot < 256 → maps.get shown.rights.held (slot_place client slot) ≡ Some grant
-    → Safe d shown → IsUse d shown client slot (usable_of shown.rights.phase grant)
-use_is d shown client slot grant small there safe =
-    let is = safe_is d shown safe in
-    let link = is.step.linked (slot_place client slot) grant there in
-    let right = (fit_is d shown.rights is.rights).right (slot_place client slot) grant there in
+-- what a use of rights says of their file
+use_is : (d : Decisions) (shown : Shown) (client slot : ℕ) (usable : Usable) → slot < 256 → IsUseOf d shown.rights (slot_place client slot) usable → Safe d shown → IsUse d shown client slot usable
+use_is d shown client slot usable small used safe =
+    let step = (safe_is d shown safe).step.slots in
+    let link = step.claims (slot_place client slot) (record { object = usable.object; mode = usable.mode; s = usable.s; t = usable.t }) used.claim in
     record {
-      held = get-mapped _ shown.rights.held (slot_place client slot)
-          ∙ ap (option_map (λ (g : Grant). record { path = path_in shown.nodes g.object; mode = g.mode })) there;
-      following = get-mapped _ shown.rights.held (slot_place client slot)
-          ∙ ap (option_map (λ (g : Grant). followed shown.rights.phase g.number)) there;
-      source = ap (slice_index shown.opening.clients) (sym (client_of_place client slot small)) ∙ link.source;
+      held = get-mapped _ (claims_of shown.rights) (slot_place client slot) ∙ ap (option_map (held_by shown.nodes)) used.claim;
+      following = used.following;
       target = link.target;
-      known_source = right.source;
-      known_target = right.target;
+      source = ap (slice_index shown.opening.clients) (sym (client_of_place client slot small)) ∙ link.source;
+      known_source = used.known_source;
+      known_target = used.known_target;
       bits = λ number named follows_it.
-          right.bits
-          ∙ ap (λ (rule : Rule). bits_under d rule shown.rights.class (version_at shown.rights.phase grant.number) grant.s grant.t grant.mode) is.step.rule
-          ∙ ap (λ (class : Class). bits_under d Each class (version_at shown.rights.phase grant.number) grant.s grant.t grant.mode) is.step.class
-          ∙ ap (λ (version : ℕ). bits_under d Each File version grant.s grant.t grant.mode)
-          (version_followed d.versions shown.rights.phase grant.number number (fit_is d shown.rights is.rights).versions follows_it);
+          used.bits number named follows_it
+          ∙ (λ i. bits_under d (step.rule_is i) (step.class_is i) (version_at shown.rights.phase number) usable.s usable.t usable.mode);
     }
 
 -- what a slot's look-up in the grants tells
-pub use_of_slot : (shown : Shown) (client slot : ℕ) → slot < 256
-    → MatchOption (option_map (usable_of shown.rights.phase) (maps.get shown.rights.held (slot_place client slot))) (IsFree shown client slot)
-    (λ (usable : Usable). (d : Decisions) → Safe d shown → IsUse d shown client slot usable)
-use_of_slot shown client slot small = at_place (maps.get shown.rights.held (slot_place client slot)) refl
-  where
-    at_place : (g : Option Grant) → maps.get shown.rights.held (slot_place client slot) ≡ g
-        → MatchOption (option_map (usable_of shown.rights.phase) g) (IsFree shown client slot) (λ (usable : Usable). (d : Decisions) → Safe d shown → IsUse d shown client slot usable)
-    at_place None there = record {
-      held = get-mapped _ shown.rights.held (slot_place client slot)
-          ∙ ap (option_map (λ (g : Grant). record { path = path_in shown.nodes g.object; mode = g.mode })) there;
-      following = get-mapped _ shown.rights.held (slot_place client slot)
-          ∙ ap (option_map (λ (g : Grant). followed shown.rights.phase g.number)) there;
-    }
-    at_place (Some grant) there = λ d safe. use_is d shown client slot grant small there safe
+pub use_of_slot : (shown : Shown) (client slot : ℕ) (found : Option Usable) → slot < 256
+    → MatchOption found (IsUnused shown.rights (slot_place client slot)) (λ (usable : Usable). (d : Decisions) → Fit d shown.rights → IsUseOf d shown.rights (slot_place client slot) usable)
+    → MatchOption found (IsFree shown client slot) (λ (usable : Usable). (d : Decisions) → Safe d shown → IsUse d shown client slot usable)
+use_of_slot shown client slot None small free =
+    record { held = get-mapped _ (claims_of shown.rights) (slot_place client slot) ∙ ap (option_map (held_by shown.nodes)) free.claim; following = free.following }
+use_of_slot shown client slot (Some usable) small used = λ d safe. use_is d shown client slot usable small (used d (safe_is d shown safe).rights) safe

@@ -1,20 +1,22 @@
 -- How files and rights show the plain manager's state: a slot holds a grant on a numbered file of the tree.
-use Rattle.std.specs.Prelude.{◌≡◌, ℕ, ◌/◌, ◌≤◌, true, IsTrue, All, List, [], slice_index, Some}
+use Rattle.std.specs.Prelude.{◌≡◌, ℕ, ◌/◌, true, IsTrue, All, List, [], slice_index, Some, refl}
 use Rattle.std.specs.Ordering.{nat_cmp}
 use Rattle.std.specs.FinMap as maps
 use Rattle.std.specs.FinMap.{FinMap}
+use Rattle.std.specs.Coded.{Coded, code_by, coded×, coded_ℕ}
 use Rattle.access_vectors.specs.Decisions.{Decisions}
 use Rattle.access_vectors.specs.Mapped.{mapped}
-use Rattle.access_vectors.specs.Phases.{number_of}
 use Rattle.access_vectors.specs.Stale.{Follows}
 use Rattle.access_vectors.specs.declared.class.Class.TheVariants.{File}
-use Rattle.retained_rights.specs.Rights.{Rights, Fit, follows_of}
-use Rattle.retained_rights.specs.declared.grant.Grant.{Grant}
+use Rattle.retained_rights.specs.Claims.{Claim, Claims, claims_of, AreInStep}
+use Rattle.retained_rights.specs.Rights.{Rights, Fit, follows_of, rights_code}
 use Rattle.retained_rights.specs.declared.rule.Rule.TheVariants.{Each}
 use Rattle.file_tree.specs.Nodes.{Nodes, AreInParents, ArePathsOnce, is_directory, is_file, path_in}
 use Rattle.file_tree.specs.Plain.{IsMirrored, plain}
+use Rattle.file_tree.specs.contracts.node.Node as node_type
 use Rattle.file_tree.specs.declared.node.Node.{Node}
 use Rattle.file_calls.specs.States.{Held, FileState}
+use Rattle.file_calls.specs.contracts.opening.FileOpening as opening_type
 use Rattle.file_calls.specs.declared.opening.FileOpening.{FileOpening}
 
 -- what contracts see of files and rights: what they were opened with, the nodes by their numbers, and the rights
@@ -23,13 +25,23 @@ pub record Shown : Type 0 where
   pub nodes : Nodes
   pub rights : Rights
 
--- the plain slots: a grant on a numbered file holds that file's path
-abbrev pub slots_of : Nodes → FinMap nat_cmp Grant → FinMap nat_cmp Held
-slots_of nodes held = mapped (λ place grant. record { path = path_in nodes grant.object; mode = grant.mode }) held
+-- how contracts tell such values apart
+abbrev pub shown_code : Coded Shown
+shown_code =
+    code_by (FileOpening × (Nodes × Rights)) (coded× opening_type.the_row.coded (coded× (maps.code coded_ℕ node_type.the_row.coded) rights_code))
+    (λ v. (v.opening, (v.nodes, v.rights))) (λ p. record { opening = p.0; nodes = p.1.0; rights = p.1.1 }) (λ _. refl)
+
+-- what the plain slot holds
+abbrev pub held_by : Nodes → Claim → Held
+held_by nodes claim = record { path = path_in nodes claim.object; mode = claim.mode }
+
+-- the plain slots: one that is for a numbered file holds that file's path
+abbrev pub slots_of : Nodes → Claims → FinMap nat_cmp Held
+slots_of nodes claims = mapped (λ place claim. held_by nodes claim) claims
 
 -- the state that the plain manager sees
 abbrev pub state_of : Shown → FileState
-state_of shown = record { opening = shown.opening; tree = plain shown.nodes; slots = slots_of shown.nodes shown.rights.held }
+state_of shown = record { opening = shown.opening; tree = plain shown.nodes; slots = slots_of shown.nodes (claims_of shown.rights) }
 
 -- the policy number that each used slot follows
 abbrev pub follows : Shown → Follows
@@ -42,12 +54,10 @@ pub record IsFileOf (nodes : Nodes) (object : ℕ) (label : ℕ) : Type 0 where
   pub file : is_file (maps.get nodes object) ≡ true
   pub label_is : node.label ≡ label
 
--- the grant of a slot is on a file, for the pair of the client and of the file's present label, and its number is no newer
--- than the newest
-pub record IsLinked (clients : List ℕ) (nodes : Nodes) (newest : ℕ) (place : ℕ) (grant : Grant) : Type 0 where
-  pub target : IsFileOf nodes grant.object grant.t
-  pub source : slice_index clients (place / 256) ≡ grant.s
-  pub number : grant.number ≤ newest
+-- a slot is for a file, and for the pair of its client and of the file's present label
+pub record IsLinked (clients : List ℕ) (nodes : Nodes) (place : ℕ) (claim : Claim) : Type 0 where
+  pub target : IsFileOf nodes claim.object claim.t
+  pub source : slice_index clients (place / 256) ≡ claim.s
 
 -- the nodes are a tree, with the root at number 0, and the plain tree shows them
 pub record IsWellMade (nodes : Nodes) : Type 0 where
@@ -60,10 +70,7 @@ pub record IsWellMade (nodes : Nodes) : Type 0 where
 -- files and rights are in step
 pub record IsInStep (shown : Shown) : Type 0 where
   pub tree : IsWellMade shown.nodes
-  pub linked : (place : ℕ) (grant : Grant) → maps.get shown.rights.held place ≡ Some grant
-      → IsLinked shown.opening.clients shown.nodes (number_of shown.rights.phase) place grant
-  pub rule : shown.rights.rule ≡ Each
-  pub class : shown.rights.class ≡ File
+  pub slots : AreInStep Each File (IsLinked shown.opening.clients shown.nodes) shown.rights
 
 -- the promise of files and rights under a decider: they are in step, their identifiers are the decider's, and the rights
 -- are those that the decider gives

@@ -1,8 +1,8 @@
-ghost use Rattle.std.specs.Prelude.{◌≡◌, ◌+◌, ◌-◌, ◌<◌, ◌≤◌, true, [], length, take, drop, min, is_some, Some, IsTrue, IfOk, OnOk, OnErr};
+//! The tree of files and its grants: how they are opened, and what is found in them.
+
+ghost use Rattle.std.specs.Prelude.{◌≡◌, ◌<◌, true, [], length, is_some, Some, IsTrue, IfOk, OnOk};
 ghost use Rattle.std.specs.FinMap as maps;
 ghost use Rattle.access_vectors.specs.Decisions.{Decisions};
-ghost use Rattle.access_vectors.specs.Phases.{number_of, is_pending, acknowledged};
-ghost use Rattle.access_vectors.specs.Stale.{now_following, all_following};
 ghost use Rattle.access_vectors.specs.declared.phase.Phase.{Phase};
 ghost use Rattle.retained_rights.specs.Rules.{Meets};
 ghost use Rattle.retained_rights.specs.declared.rule.Rule.{Rule};
@@ -12,54 +12,29 @@ ghost use Rattle.file_calls.specs.States.{opened_with, sid_of};
 ghost use Rattle.file_store.specs.Laying.{MayLay};
 ghost use Rattle.file_store.specs.Stores.{IsWellMade, Safe, state_of, follows};
 
-use access_vectors::{Class, Decider, Steps};
+use access_vectors::Class;
 use file_calls::{FileOpening, Node};
 use file_tree::Tree;
 use flask_sid::{Memory, Piece, Sid};
 use retained_rights::{Callback, Grants, Rule};
 use std::alloc::Global;
 use std::marker::Model;
-use std::sync::ledger::Ledger;
 
-/// The tree of files, and a grant for each used slot. Contracts see a value `Shown`.
+/// The tree of files, and a grant for each used slot. Contracts see a value `Shown`. A change of policy is made on the grants
+/// themselves, and leaves what each is for.
 #[derive(Drop)]
 pub struct Files<F: Callback> {
     pub(crate) opening: FileOpening,
     pub(crate) tree: Tree,
-    pub(crate) grants: Grants<F>,
+    pub grants: Grants<F>,
 }
 
 impl<F: Callback> Model for Files<F> {
-    ghost use Rattle.std.specs.Prelude.{ℕ, List, refl};
-    ghost use Rattle.std.specs.Ordering.{nat_cmp};
-    ghost use Rattle.std.specs.FinMap as maps;
-    ghost use Rattle.std.specs.Coded.{code_by, coded×, coded_list, coded_ℕ};
-    ghost use Rattle.access_vectors.specs.contracts.class.Class as class_type;
-    ghost use Rattle.access_vectors.specs.contracts.phase.Phase as phase_type;
-    ghost use Rattle.access_vectors.specs.declared.class.Class.{Class};
-    ghost use Rattle.access_vectors.specs.declared.phase.Phase.{Phase};
-    ghost use Rattle.retained_rights.specs.contracts.grant.Grant as grant_type;
-    ghost use Rattle.retained_rights.specs.contracts.rule.Rule as rule_type;
-    ghost use Rattle.retained_rights.specs.declared.rule.Rule.{Rule};
-    ghost use Rattle.retained_rights.specs.declared.grant.Grant.{Grant};
-    ghost use Rattle.file_tree.specs.contracts.node.Node as node_type;
-    ghost use Rattle.file_tree.specs.Nodes.{Nodes};
-    ghost use Rattle.file_calls.specs.contracts.opening.FileOpening as opening_type;
-    ghost use Rattle.file_calls.specs.declared.opening.FileOpening.{FileOpening};
-    ghost use Rattle.file_store.specs.Stores.{Shown, IsInStep};
+    ghost use Rattle.file_store.specs.Stores.{Shown, IsInStep, shown_code};
 
     ghost Value = { Shown };
 
-    ghost coded = { code_by (FileOpening × (Nodes × (Rule × (Class × (Phase × (maps.FinMap nat_cmp Grant × List ℕ))))))
-        (coded× opening_type.the_row.coded (coded× (maps.code coded_ℕ node_type.the_row.coded) (coded× rule_type.the_row.coded
-        (coded× class_type.the_row.coded (coded× phase_type.the_row.coded
-        (coded× (maps.code coded_ℕ grant_type.the_row.coded) (coded_list coded_ℕ)))))))
-        (λ v. (v.opening, (v.nodes, (v.rights.rule, (v.rights.class, (v.rights.phase, (v.rights.held, v.rights.stale)))))))
-        (λ p. record {
-          opening = p.0;
-          nodes = p.1.0;
-          rights = record { rule = p.1.1.0; class = p.1.1.1.0; phase = p.1.1.1.1.0; held = p.1.1.1.1.1.0; stale = p.1.1.1.1.1.1 };
-        }) (λ _. refl) };
+    ghost coded = { shown_code };
 
     ghost view = { λ files. record { opening = files.opening; nodes = files.tree; rights = files.grants } };
 
@@ -118,75 +93,6 @@ impl<F: Callback> Files<F> {
         ensures known { (d : Decisions) → Safe d self.now → IsTrue (d.known result.now.label) }
     {
         self.tree.node(object).unwrap()
-    }
-
-    /// Begins a change: from the settled number with version `old` to `number`, the next one, with version `new`. Answers
-    /// how many slots are stale. After `Memory` all is as before.
-    pub fn start<D: Decider>(
-        &mut self,
-        decider: &D,
-        number: u32,
-        old: u8,
-        new: u8,
-    ) -> Result<u64, Memory>
-        requires safe { Safe (D.decides decider.now) self.old }
-        requires next { 0 < number }
-        requires settled { self.old.rights.phase ≡ Phase.Settled (number - 1) old }
-        requires old_version { old < (D.decides decider.now).versions }
-        requires new_version { new < (D.decides decider.now).versions }
-        ensures found { IfOk result (λ found. found ≡ length self.new.rights.stale) }
-        ensures pending { OnOk result (self.new.rights.phase ≡ Phase.Pending number old new) }
-        ensures as_before { OnErr result (self.new ≡ self.old) }
-        ensures state { state_of self.new ≡ state_of self.old }
-        ensures opening { self.new.opening ≡ self.old.opening }
-        ensures follows { follows self.new ≡ follows self.old }
-        ensures safe { Safe (D.decides decider.now) self.new }
-    {
-        let found = self.grants.start(decider, number, old, new)?;
-        Ok(found)
-    }
-
-    /// Lets the first `k` stale slots, or all where they are fewer, follow the pending number. One tick of `steps` for
-    /// each of them at most. Answers how many are left. It takes no memory.
-    pub fn revise<D: Decider, L: Ledger>(
-        &mut self,
-        decider: &D,
-        k: u64,
-        steps: &mut Steps<L>,
-    ) -> u64
-        requires safe { Safe (D.decides decider.now) self.old }
-        requires pending { is_pending self.old.rights.phase ≡ true }
-        ensures left { result ≡ length self.new.rights.stale }
-        ensures stale { self.new.rights.stale ≡ drop k self.old.rights.stale }
-        ensures follows { follows self.new
-            ≡ now_following (take k self.old.rights.stale) (number_of self.old.rights.phase) (follows self.old) }
-        ensures cost { steps.new ≤ steps.old + min k (length self.old.rights.stale) }
-        ensures state { state_of self.new ≡ state_of self.old }
-        ensures opening { self.new.opening ≡ self.old.opening }
-        ensures phase { self.new.rights.phase ≡ self.old.rights.phase }
-        ensures safe { Safe (D.decides decider.now) self.new }
-    {
-        self.grants.revise(decider, k, steps)
-    }
-
-    /// How many slots are stale.
-    pub fn left(&self) -> u64
-        ensures { result ≡ length self.now.rights.stale }
-    {
-        self.grants.left()
-    }
-
-    /// Ends the pending change, after which every used slot follows its number. It takes no memory.
-    pub fn settle(&mut self)
-        requires pending { is_pending self.old.rights.phase ≡ true }
-        requires revised { length self.old.rights.stale ≡ 0 }
-        ensures phase { self.new.rights.phase ≡ acknowledged self.old.rights.phase }
-        ensures follows { follows self.new ≡ all_following (number_of self.old.rights.phase) (follows self.old) }
-        ensures state { state_of self.new ≡ state_of self.old }
-        ensures opening { self.new.opening ≡ self.old.opening }
-        ensures safe { (d : Decisions) → Safe d self.old → Safe d self.new }
-    {
-        self.grants.settle();
     }
 }
 

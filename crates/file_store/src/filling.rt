@@ -1,3 +1,5 @@
+//! What a slot is filled with.
+
 use access_vectors::Vector;
 use flask_sid::Sid;
 

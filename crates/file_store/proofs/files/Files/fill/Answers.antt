@@ -1,16 +1,12 @@
-use Rattle.std.proofs.Common.{ℕ, IsTrue, sym, subst}
+use Rattle.std.proofs.Common.{ℕ, IsTrue, sym, ap, subst, ◌∙◌}
 use Rattle.access_vectors.specs.Decisions.{Decisions}
-use Rattle.access_vectors.specs.Phases.{number_of}
 use Rattle.access_vectors.specs.Stale.{slot_place}
-use Rattle.retained_rights.specs.Rights.{Fit, bits_under}
-use Rattle.access_vectors.specs.declared.class.Class.{Class}
-use Rattle.retained_rights.specs.declared.rule.Rule.{Rule}
-use Rattle.retained_rights.specs.declared.grant.Grant.{Grant}
-use Rattle.file_store.specs.declared.filling.Filling.{Filling}
-use Rattle.file_store.specs.Stores.{Shown}
+use Rattle.retained_rights.specs.Claims.{Claim, claims_of}
+use Rattle.retained_rights.specs.Rights.{Fit}
+use Rattle.retained_rights.proofs.MapLemmas.{mapped-insert}
+use Rattle.file_store.specs.Stores.{Shown, slots_of}
 use Rattle.file_store.specs.Laws.{safe_is}
-use Rattle.file_store.proofs.Linking.{AreLinked, link_filled, linked_filled, linked_as, step_changed, safe_changed, file_known}
-use Rattle.file_store.proofs.StateLemmas.{state_filled, follows_filled_is}
+use Rattle.file_store.proofs.Linking.{step_filled, safe_changed, state_slots, file_known}
 use Rattle.file_store.proofs.files.Files.fill.Goals as goal
 
 pub vector_at-vector-requires-clause-target : goal.vector_at-vector-requires-clause-target
@@ -29,53 +25,23 @@ add-requires-clause-target g c =
     subst (λ (d : Decisions). IsTrue (d.known c.args.filling.t)) (sym c.vector_at-vector.ensures.decides)
     (file_known (g.A.Asker.decides c.args.asker.now) shown c.args.filling.object c.args.filling.t (rw (← c.self.view_is) at c.requires.safe) (rw (← c.self.view_is) at c.requires.target))
 
--- the grant that an asker's decider gives
-abbrev grant_of : Decisions → Rule → Class → ℕ → Filling → Grant
-grant_of d rule class version filling = record {
-  object = filling.object;
-  s = filling.s;
-  t = filling.t;
-  mode = filling.mode;
-  bits = bits_under d rule class version filling.s filling.t filling.mode;
-  number = filling.number;
-}
-
 pub invariant_of-self-2 : goal.invariant_of-self-2
 invariant_of-self-2 g c =
     let shown : Shown = record { opening = c.self.inside.opening; nodes = c.self.inside.tree; rights = c.self.inside.grants } in
-    let asker = c.vector_at-vector.new.self in
-    let grant = grant_of (g.A.Asker.decides asker) shown.rights.rule shown.rights.class (g.A.Asker.version asker) c.args.filling in
-    step_changed shown c.add.new.self c.self.invariant c.add.ensures.rule c.add.ensures.class
-    (linked_as shown.opening.clients shown.nodes shown.rights c.add.new.self c.add.ensures.phase
-    (subst (AreLinked shown.opening.clients shown.nodes (number_of shown.rights.phase)) (sym c.in-Ok.ensures.held)
-    (linked_filled shown.opening.clients shown.nodes (number_of shown.rights.phase) shown.rights.held (slot_place c.args.client c.args.slot) grant c.self.invariant.linked
-    (link_filled shown c.args.client c.args.slot grant c.ranges.slot.fits (rw (← c.self.view_is) at c.requires.target) (rw (← c.self.view_is) at c.requires.source) (rw (← c.self.view_is) at c.requires.named)))))
+    let claim : Claim = record { object = c.args.filling.object; mode = c.args.filling.mode; s = c.args.filling.s; t = c.args.filling.t } in
+    step_filled shown c.add.new.self c.args.client c.args.slot claim c.ranges.slot.fits c.self.invariant c.add.ensures.rule c.add.ensures.class
+    (rw (← c.self.view_is) at c.requires.target) (rw (← c.self.view_is) at c.requires.source) c.in-Ok.ensures.claims
 
 pub returns-clause-state : goal.returns-clause-state
 returns-clause-state g c =
     let shown : Shown = record { opening = c.self.inside.opening; nodes = c.self.inside.tree; rights = c.self.inside.grants } in
-    let asker = c.vector_at-vector.new.self in
-    let grant = grant_of (g.A.Asker.decides asker) shown.rights.rule shown.rights.class (g.A.Asker.version asker) c.args.filling in
-    rw (← c.self.view_is) (state_filled shown c.add.new.self (slot_place c.args.client c.args.slot) grant c.in-Ok.ensures.held)
-
-pub returns-clause-follows : goal.returns-clause-follows
-returns-clause-follows g c =
-    let shown : Shown = record { opening = c.self.inside.opening; nodes = c.self.inside.tree; rights = c.self.inside.grants } in
-    let asker = c.vector_at-vector.new.self in
-    let grant = grant_of (g.A.Asker.decides asker) shown.rights.rule shown.rights.class (g.A.Asker.version asker) c.args.filling in
-    rw (← c.self.view_is)
-    (follows_filled_is shown c.add.new.self (slot_place c.args.client c.args.slot) grant c.add.ensures.phase c.in-Ok.ensures.held
-    (rw (← c.self.view_is) at c.requires.named))
+    rw (← c.self.view_is) (state_slots shown c.add.new.self _ (ap (slots_of shown.nodes) c.in-Ok.ensures.claims ∙ mapped-insert _ (claims_of shown.rights) _ _))
 
 pub returns-clause-safe : goal.returns-clause-safe
 returns-clause-safe g c =
     let shown : Shown = record { opening = c.self.inside.opening; nodes = c.self.inside.tree; rights = c.self.inside.grants } in
-    let asker = c.vector_at-vector.new.self in
-    let grant = grant_of (g.A.Asker.decides asker) shown.rights.rule shown.rights.class (g.A.Asker.version asker) c.args.filling in
+    let claim : Claim = record { object = c.args.filling.object; mode = c.args.filling.mode; s = c.args.filling.s; t = c.args.filling.t } in
     safe_changed (g.A.Asker.decides c.args.asker.now) shown c.add.new.self (rw (← c.self.view_is) at c.requires.safe)
-    (step_changed shown c.add.new.self c.self.invariant c.add.ensures.rule c.add.ensures.class
-    (linked_as shown.opening.clients shown.nodes shown.rights c.add.new.self c.add.ensures.phase
-    (subst (AreLinked shown.opening.clients shown.nodes (number_of shown.rights.phase)) (sym c.in-Ok.ensures.held)
-    (linked_filled shown.opening.clients shown.nodes (number_of shown.rights.phase) shown.rights.held (slot_place c.args.client c.args.slot) grant c.self.invariant.linked
-    (link_filled shown c.args.client c.args.slot grant c.ranges.slot.fits (rw (← c.self.view_is) at c.requires.target) (rw (← c.self.view_is) at c.requires.source) (rw (← c.self.view_is) at c.requires.named))))))
+    (step_filled shown c.add.new.self c.args.client c.args.slot claim c.ranges.slot.fits c.self.invariant c.add.ensures.rule c.add.ensures.class
+    (rw (← c.self.view_is) at c.requires.target) (rw (← c.self.view_is) at c.requires.source) c.in-Ok.ensures.claims)
     (subst (λ (d : Decisions). Fit d c.add.new.self) c.vector_at-vector.ensures.decides c.add.ensures.fit)

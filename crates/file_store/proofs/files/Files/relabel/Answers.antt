@@ -15,28 +15,24 @@ invariant_of-self-2 g c =
     let shown : Shown = record { opening = c.self.inside.opening; nodes = c.self.inside.tree; rights = c.self.inside.grants } in
     let made : IsWellMade c.set_label.new.self = record { root = c.root-root.ensures.directory; root_path = c.root-root.ensures.path; once = c.root-root.ensures.once; parents = c.root-root.ensures.parents; mirrored = c.root-root.ensures.mirrored } in
     let moved = c.relabel.ensures in
-    step_relabelled shown c.args.object (rw (← c.self.view_is) at c.requires.there) c.args.label c.args.number (rw (← c.self.view_is) at c.requires.named) (g.A.Asker.decides c.args.asker.now) (g.A.Asker.version c.args.asker.now)
-    c.set_label.new.self c.relabel.new.self c.set_label.ensures.nodes c.in_ok-relabel.ensures.held moved.phase moved.rule moved.class c.self.invariant made
+    step_relabelled shown c.args.object (rw (← c.self.view_is) at c.requires.there) c.args.label c.set_label.new.self c.relabel.new.self c.set_label.ensures.nodes moved.rule moved.class c.in_ok-relabel.ensures.claims c.self.invariant made
 
 pub returns-clause-state : goal.returns-clause-state
 returns-clause-state g c =
     let shown : Shown = record { opening = c.self.inside.opening; nodes = c.self.inside.tree; rights = c.self.inside.grants } in
     let moved = c.relabel.ensures in
-    rw (← c.self.view_is) (state_relabelled shown c.args.object (rw (← c.self.view_is) at c.requires.there) c.args.label c.args.number (rw (← c.self.view_is) at c.requires.named) (g.A.Asker.decides c.args.asker.now) (g.A.Asker.version c.args.asker.now)
-    c.set_label.new.self c.relabel.new.self c.set_label.ensures.nodes c.in_ok-relabel.ensures.held moved.phase moved.rule moved.class c.self.invariant
+    rw (← c.self.view_is) (state_relabelled shown c.args.object (rw (← c.self.view_is) at c.requires.there) c.args.label c.set_label.new.self c.relabel.new.self c.set_label.ensures.nodes moved.rule moved.class c.in_ok-relabel.ensures.claims c.self.invariant
     (plain_relabelled (plain shown.nodes) c.args.label (maps.get shown.nodes c.args.object)) c.set_label.ensures.plain)
 
 pub returns-clause-follows : goal.returns-clause-follows
 returns-clause-follows g c =
     let shown : Shown = record { opening = c.self.inside.opening; nodes = c.self.inside.tree; rights = c.self.inside.grants } in
     let moved = c.relabel.ensures in
-    rw (← c.self.view_is) (follows_relabelled shown c.args.object (rw (← c.self.view_is) at c.requires.there) c.args.label c.args.number (rw (← c.self.view_is) at c.requires.named) (g.A.Asker.decides c.args.asker.now) (g.A.Asker.version c.args.asker.now)
-    c.set_label.new.self c.relabel.new.self c.set_label.ensures.nodes c.in_ok-relabel.ensures.held moved.phase moved.rule moved.class c.self.invariant)
+    rw (← c.self.view_is) (follows_relabelled shown c.args.object (rw (← c.self.view_is) at c.requires.there) c.args.label c.set_label.new.self c.relabel.new.self c.set_label.ensures.nodes moved.rule moved.class c.in_ok-relabel.ensures.claims c.self.invariant c.args.number c.in_ok-relabel.ensures.follows)
 
 pub returns-clause-safe : goal.returns-clause-safe
 returns-clause-safe g c =
     let shown : Shown = record { opening = c.self.inside.opening; nodes = c.self.inside.tree; rights = c.self.inside.grants } in
     let made : IsWellMade c.set_label.new.self = record { root = c.root-root.ensures.directory; root_path = c.root-root.ensures.path; once = c.root-root.ensures.once; parents = c.root-root.ensures.parents; mirrored = c.root-root.ensures.mirrored } in
     let moved = c.relabel.ensures in
-    safe_relabelled shown c.args.object (rw (← c.self.view_is) at c.requires.there) c.args.label c.args.number (rw (← c.self.view_is) at c.requires.named) (g.A.Asker.decides c.args.asker.now) (g.A.Asker.version c.args.asker.now)
-    c.set_label.new.self c.relabel.new.self c.set_label.ensures.nodes c.in_ok-relabel.ensures.held moved.phase moved.rule moved.class c.self.invariant made c.requires.known (rw (← c.self.view_is) at c.requires.safe) moved.fit
+    safe_relabelled shown c.args.object (rw (← c.self.view_is) at c.requires.there) c.args.label c.set_label.new.self c.relabel.new.self c.set_label.ensures.nodes moved.rule moved.class c.in_ok-relabel.ensures.claims c.self.invariant made (g.A.Asker.decides c.args.asker.now) c.requires.known (rw (← c.self.view_is) at c.requires.safe) moved.fit

@@ -13,25 +13,25 @@ invariant_of-self g c =
     let shown : Shown = record { opening = c.self.inside.opening; nodes = c.self.inside.tree; rights = c.self.inside.grants } in
     let made : IsWellMade c.remove.new.self = record { root = c.root-root.ensures.directory; root_path = c.root-root.ensures.path; once = c.root-root.ensures.once; parents = c.root-root.ensures.parents; mirrored = c.root-root.ensures.mirrored } in
     let drop = c.drop_object.ensures in
-    step_taken shown c.args.object (rw (← c.self.view_is) at c.requires.there) c.remove.new.self c.drop_object.new.self c.remove.ensures.nodes drop.held drop.phase drop.rule drop.class c.self.invariant made
+    step_taken shown c.args.object (rw (← c.self.view_is) at c.requires.there) c.remove.new.self c.drop_object.new.self c.remove.ensures.nodes drop.rule drop.class drop.claims c.self.invariant made
 
 pub returns-clause-state : goal.returns-clause-state
 returns-clause-state g c =
     let shown : Shown = record { opening = c.self.inside.opening; nodes = c.self.inside.tree; rights = c.self.inside.grants } in
     let drop = c.drop_object.ensures in
-    rw (← c.self.view_is) (state_taken shown c.args.object (rw (← c.self.view_is) at c.requires.there) c.remove.new.self c.drop_object.new.self c.remove.ensures.nodes drop.held drop.phase drop.rule drop.class c.self.invariant
+    rw (← c.self.view_is) (state_taken shown c.args.object (rw (← c.self.view_is) at c.requires.there) c.remove.new.self c.drop_object.new.self c.remove.ensures.nodes drop.rule drop.class drop.claims c.self.invariant
     c.remove.ensures.plain)
 
 pub returns-clause-follows : goal.returns-clause-follows
 returns-clause-follows g c =
     let shown : Shown = record { opening = c.self.inside.opening; nodes = c.self.inside.tree; rights = c.self.inside.grants } in
     let drop = c.drop_object.ensures in
-    rw (← c.self.view_is) (follows_taken shown c.args.object (rw (← c.self.view_is) at c.requires.there) c.remove.new.self c.drop_object.new.self c.remove.ensures.nodes drop.held drop.phase drop.rule drop.class c.self.invariant)
+    rw (← c.self.view_is) (follows_taken shown c.args.object (rw (← c.self.view_is) at c.requires.there) c.remove.new.self c.drop_object.new.self c.remove.ensures.nodes drop.rule drop.class drop.claims c.self.invariant drop.follows)
 
 pub returns-clause-safe : goal.returns-clause-safe
 returns-clause-safe g c = λ d kept.
     let shown : Shown = record { opening = c.self.inside.opening; nodes = c.self.inside.tree; rights = c.self.inside.grants } in
     let made : IsWellMade c.remove.new.self = record { root = c.root-root.ensures.directory; root_path = c.root-root.ensures.path; once = c.root-root.ensures.once; parents = c.root-root.ensures.parents; mirrored = c.root-root.ensures.mirrored } in
     let drop = c.drop_object.ensures in
-    safe_taken shown c.args.object (rw (← c.self.view_is) at c.requires.there) c.remove.new.self c.drop_object.new.self c.remove.ensures.nodes drop.held drop.phase drop.rule drop.class c.self.invariant made d
+    safe_taken shown c.args.object (rw (← c.self.view_is) at c.requires.there) c.remove.new.self c.drop_object.new.self c.remove.ensures.nodes drop.rule drop.class drop.claims c.self.invariant made d
     (rw (← c.self.view_is) at kept) (drop.fit d)

@@ -5,4 +5,4 @@ use Rattle.file_store.proofs.files.Files.slot_use.Goals as goal
 pub returns : goal.returns
 returns g c =
     let shown : Shown = record { opening = c.self.inside.opening; nodes = c.self.inside.tree; rights = c.self.inside.grants } in
-    rw (← c.self.view_is) (rw c.usable.ensures (use_of_slot shown c.args.client c.args.slot c.ranges.slot.fits))
+    rw (← c.self.view_is) (use_of_slot shown c.args.client c.args.slot c.usable.result c.ranges.slot.fits c.usable.ensures.told)
