@@ -19,7 +19,10 @@ struct Reader {
 }
 
 impl Core for Reader {
-    ghost use Rattle.std.specs.Prelude.{ℕ, Bool, true, false, List, [], ◌∷◌, None, Some, refl, IsTrue, if◌then◌else◌, ◌≡◌};
+    ghost use Rattle.std.specs.Prelude.{ℕ, Bool, true, false, List, [], ◌∷◌, None, Some, is_some, refl, IsTrue, if◌then◌else◌, ◌≡◌};
+    ghost use Rattle.std.proofs.Common.{ap, sym};
+    ghost use Rattle.std.specs.FinMap as maps;
+    ghost use Rattle.std.specs.Ordering.{nat_cmp};
     ghost use Rattle.std.proofs.lemmas.List.Elements.{All-cons, All-nil};
     ghost use Rattle.access_vectors.specs.declared.class.Class.TheVariants.{File};
     ghost use Rattle.access_vectors.specs.Asking.{question};
@@ -115,6 +118,8 @@ impl Core for Reader {
     ghost are_stale = { λ d reader fits. none_are_stale d File reader.phase (λ place. None) };
 
     ghost are_named = { λ d reader fits. none_named reader.phase };
+
+    ghost are_used = { λ d reader fits place. ap is_some (sym (maps.get-from_sorted nat_cmp [] place tt)) };
 }
 
 fn update_counted<L: Ledger>(
