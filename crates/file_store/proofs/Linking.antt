@@ -13,7 +13,8 @@ use Rattle.retained_rights.proofs.StepLemmas as steps
 use Rattle.file_tree.specs.Nodes.{Nodes}
 use Rattle.file_tree.specs.declared.node.Node.{Node}
 use Rattle.file_calls.specs.States.{Held, with_slots}
-use Rattle.file_store.specs.Stores.{Shown, IsFileOf, IsLinked, IsWellMade, IsInStep, Safe, slots_of, state_of}
+use Rattle.file_tree.specs.Plain.{IsWellMade}
+use Rattle.file_store.specs.Stores.{Shown, IsFileOf, IsLinked, IsInStep, Safe, slots_of, state_of}
 use Rattle.file_store.specs.Laws.{safe_is}
 
 -- each label is the decider's

@@ -11,12 +11,12 @@ use Rattle.retained_rights.specs.Rights.{Rights, Fit, follows_of}
 use Rattle.retained_rights.proofs.MapLemmas.{some_of, kept_some, mapped_alike, mapped-mapped, mapped-retain_keys}
 use Rattle.retained_rights.proofs.StepLemmas as steps
 use Rattle.file_tree.specs.Nodes.{Nodes, is_file, in_place, path_in, path_of, relabelled, with_bytes}
-use Rattle.file_tree.specs.Plain.{PlainTree, plain, plain_without}
+use Rattle.file_tree.specs.Plain.{PlainTree, plain, plain_without, IsWellMade}
 use Rattle.file_tree.specs.declared.node.Node.{Node}
 use Rattle.file_calls.specs.PathCalls.{is_held_at, slots_without, taken_out}
 use Rattle.file_calls.specs.Plain.{follows_moved, follows_without}
 use Rattle.file_calls.specs.States.{Held, with_tree}
-use Rattle.file_store.specs.Stores.{Shown, IsFileOf, IsLinked, IsWellMade, IsInStep, Safe, held_by, state_of, slots_of, follows}
+use Rattle.file_store.specs.Stores.{Shown, IsFileOf, IsLinked, IsInStep, Safe, held_by, state_of, slots_of, follows}
 use Rattle.file_store.specs.Laws.{safe_is}
 use Rattle.file_store.proofs.Linking.{AreKnown, with_both, safe_moved}
 use Rattle.file_store.proofs.ChangeLemmas.{holds_is, path_stays, file_stays, file_alike, labels_stay, path_beside, file_beside, labels_beside, path_left, file_left, labels_left}

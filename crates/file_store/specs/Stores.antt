@@ -11,8 +11,8 @@ use Rattle.access_vectors.specs.declared.class.Class.TheVariants.{File}
 use Rattle.retained_rights.specs.Claims.{Claim, Claims, claims_of, AreInStep}
 use Rattle.retained_rights.specs.Rights.{Rights, Fit, follows_of, rights_code}
 use Rattle.retained_rights.specs.declared.rule.Rule.TheVariants.{Each}
-use Rattle.file_tree.specs.Nodes.{Nodes, AreInParents, ArePathsOnce, is_directory, is_file, path_in}
-use Rattle.file_tree.specs.Plain.{IsMirrored, plain}
+use Rattle.file_tree.specs.Nodes.{Nodes, is_file, path_in}
+use Rattle.file_tree.specs.Plain.{IsWellMade, plain}
 use Rattle.file_tree.specs.contracts.node.Node as node_type
 use Rattle.file_tree.specs.declared.node.Node.{Node}
 use Rattle.file_calls.specs.States.{Held, FileState}
@@ -58,14 +58,6 @@ pub record IsFileOf (nodes : Nodes) (object : ℕ) (label : ℕ) : Type 0 where
 pub record IsLinked (clients : List ℕ) (nodes : Nodes) (place : ℕ) (claim : Claim) : Type 0 where
   pub target : IsFileOf nodes claim.object claim.t
   pub source : slice_index clients (place / 256) ≡ claim.s
-
--- the nodes are a tree, with the root at number 0, and the plain tree shows them
-pub record IsWellMade (nodes : Nodes) : Type 0 where
-  pub root : is_directory (maps.get nodes 0) ≡ true
-  pub root_path : path_in nodes 0 ≡ []
-  pub once : ArePathsOnce nodes
-  pub parents : AreInParents nodes
-  pub mirrored : IsMirrored nodes
 
 -- files and rights are in step
 pub record IsInStep (shown : Shown) : Type 0 where

@@ -1,5 +1,4 @@
-//! Changes of the tree, and what they do to the slots. Each ends with a look at the tree's root, which tells that the tree is
-//! still well made.
+//! Changes of the tree, and what they do to the slots.
 
 ghost use Rattle.std.specs.Prelude.{◌≡◌, ◌++◌, ◌<◌, ◌^◌, true, length, is_some, IsTrue, OnOk, OnErr};
 ghost use Rattle.std.specs.FinMap as maps;
@@ -42,7 +41,6 @@ impl<F: Callback> Files<F> {
         ensures phase { self.new.rights.phase ≡ self.old.rights.phase }
     {
         let _number = self.tree.add(alloc, directory, key, name, label, bytes)?;
-        let _root = self.tree.root();
         Ok(())
     }
 
@@ -60,7 +58,6 @@ impl<F: Callback> Files<F> {
     {
         self.grants.drop_object(object);
         self.tree.remove(object);
-        let _root = self.tree.root();
     }
 
     /// Gives a node another label, under a policy number whose version the asker has: every slot that holds it is for the
@@ -92,7 +89,6 @@ impl<F: Callback> Files<F> {
     {
         self.grants.relabel(object, label, number, asker)?;
         self.tree.set_label(object, label);
-        let _root = self.tree.root();
         Ok(())
     }
 
@@ -114,7 +110,6 @@ impl<F: Callback> Files<F> {
         ensures phase { self.new.rights.phase ≡ self.old.rights.phase }
     {
         self.tree.write(alloc, object, offset, piece)?;
-        let _root = self.tree.root();
         Ok(())
     }
 
@@ -130,7 +125,6 @@ impl<F: Callback> Files<F> {
         ensures phase { self.new.rights.phase ≡ self.old.rights.phase }
     {
         self.tree.append(alloc, object, piece)?;
-        let _root = self.tree.root();
         Ok(())
     }
 }

@@ -6,11 +6,11 @@ ghost use Rattle.access_vectors.specs.Decisions.{Decisions};
 ghost use Rattle.access_vectors.specs.declared.phase.Phase.{Phase};
 ghost use Rattle.retained_rights.specs.Rules.{Meets};
 ghost use Rattle.retained_rights.specs.declared.rule.Rule.{Rule};
-ghost use Rattle.file_tree.specs.Plain.{plain, item_of, steps_of};
+ghost use Rattle.file_tree.specs.Plain.{IsWellMade, plain, item_of, steps_of};
 ghost use Rattle.file_calls.specs.Openings.{AreNodes, IsOpening};
 ghost use Rattle.file_calls.specs.States.{opened_with, sid_of};
 ghost use Rattle.file_store.specs.Laying.{MayLay};
-ghost use Rattle.file_store.specs.Stores.{IsWellMade, Safe, state_of, follows};
+ghost use Rattle.file_store.specs.Stores.{Safe, state_of, follows};
 
 use access_vectors::Class;
 use file_calls::{FileOpening, Node};
@@ -58,7 +58,6 @@ impl<F: Callback + Drop> Files<F> {
         for node in opening.nodes.as_slice() {
             lay(alloc, &mut tree, node)?;
         }
-        let _root = tree.root();
         Ok(Files {
             opening,
             tree,
@@ -98,13 +97,14 @@ impl<F: Callback> Files<F> {
 
 // Puts a node of an opening into the tree, under key 0.
 fn lay(alloc: Global, tree: &mut Tree, node: &Node) -> Result<(), Memory>
-    requires { MayLay (plain tree.old) node.now.path }
-    ensures { OnOk result (plain tree.new
+    requires may { MayLay (plain tree.old) node.now.path }
+    requires made { IsWellMade tree.old }
+    ensures laid { OnOk result (plain tree.new
         ≡ maps.insert (plain tree.old) (steps_of node.now.path) (record { label = node.now.sid; bytes = node.now.bytes })) }
+    ensures made { OnOk result (IsWellMade tree.new) }
 {
     let (name, above) = node.path.as_slice().split_last().unwrap();
     let directory = tree.find(above).unwrap();
-    let _root = tree.root();
     let bytes = copied(alloc, &node.bytes)?;
     tree.add(alloc, directory, 0, name.as_bytes(), node.sid, bytes)?;
     Ok(())

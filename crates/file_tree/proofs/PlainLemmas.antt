@@ -13,8 +13,8 @@ use Rattle.slot_tables.proofs.SlotLemmas.{get-put, get-taken}
 use Rattle.file_tree.specs.declared.step.Step.{Step}
 use Rattle.file_tree.specs.declared.node.Node.{Node}
 use Rattle.file_tree.specs.Shelves.{Places}
-use Rattle.file_tree.specs.Nodes.{Nodes, IsFree, IsTree, ArePathsOnce}
-use Rattle.file_tree.specs.Plain.{step_cmp, Item, IsMirrored, item_of, plain}
+use Rattle.file_tree.specs.Nodes.{Nodes, IsFree, IsTree, ArePathsOnce, is_directory, is_directory_node, path_of}
+use Rattle.file_tree.specs.Plain.{step_cmp, Item, IsMirrored, IsWellMade, item_of, plain}
 use Rattle.file_tree.proofs.RowLemmas.{true_or_false}
 use Rattle.file_tree.proofs.Paths.{same_some, none_some, none_unless}
 
@@ -236,6 +236,18 @@ pub mirrored : (nodes : Nodes) → ArePathsOnce nodes → IsMirrored nodes
 mirrored nodes once = record {
   stands = stands nodes once;
   standing = λ path item is. let found = standing nodes path item is in record { number = found.0; node = found.1; held = found.2; at = found.3; is = found.4 };
+}
+
+-- a tree is well made
+pub well_made : (nodes : Nodes) (places : Places) → IsTree nodes places → IsWellMade nodes
+well_made nodes places tree = record {
+  root = ap is_directory tree.root.held ∙ ap is_directory_node tree.root.kind;
+  root_path = ap path_of tree.root.held ∙ tree.root.path;
+  once = once_of nodes places tree;
+  parents = λ number node held apart.
+      let was = tree.placed number node held apart in
+      record { step = was.step; above = was.above; over = was.over; kind = was.kind; path = was.path };
+  mirrored = mirrored nodes (once_of nodes places tree);
 }
 
 -- as many paths as rows

@@ -1,5 +1,5 @@
 -- The plain tree: a finite map from paths to what stands there.
-use Rattle.std.specs.Prelude.{◌≡◌, ℕ, Bool, ◌&&◌, ◌==◌, List, [], ◌∷◌, Option, None, Some, is_some, option_map, map, if◌then◌else◌}
+use Rattle.std.specs.Prelude.{◌≡◌, ℕ, Bool, true, ◌&&◌, ◌==◌, List, [], ◌∷◌, Option, None, Some, is_some, option_map, map, if◌then◌else◌}
 use Rattle.std.specs.List.{list_any, filter_map}
 use Rattle.std.specs.Str.{bytes_eq}
 use Rattle.std.specs.declared.cmp.Ordering.{Ordering}
@@ -9,7 +9,7 @@ use Rattle.std.specs.FinMap as maps
 use Rattle.std.specs.FinMap.{FinMap}
 use Rattle.file_tree.specs.declared.step.Step.{Step}
 use Rattle.file_tree.specs.declared.node.Node.{Node}
-use Rattle.file_tree.specs.Nodes.{Nodes}
+use Rattle.file_tree.specs.Nodes.{Nodes, ArePathsOnce, AreInParents, is_directory, path_in}
 
 -- the order of steps: by key, and then by name in byte order
 abbrev pub step_cmp : Step → Step → Ordering
@@ -52,6 +52,14 @@ pub record IsItemAt (nodes : Nodes) (path : List Step) (item : Item) : Type 0 wh
 pub record IsMirrored (nodes : Nodes) : Type 0 where
   pub stands : (number : ℕ) (node : Node) → maps.get nodes number ≡ Some node → maps.get (plain nodes) node.path ≡ Some (item_of node)
   pub standing : (path : List Step) (item : Item) → maps.get (plain nodes) path ≡ Some item → IsItemAt nodes path item
+
+-- the nodes are a tree, with the root at number 0, and the plain tree shows them
+pub record IsWellMade (nodes : Nodes) : Type 0 where
+  pub root : is_directory (maps.get nodes 0) ≡ true
+  pub root_path : path_in nodes 0 ≡ []
+  pub once : ArePathsOnce nodes
+  pub parents : AreInParents nodes
+  pub mirrored : IsMirrored nodes
 
 -- the plain tree without what a node is, if it is there
 abbrev pub plain_without : PlainTree → Option Node → PlainTree

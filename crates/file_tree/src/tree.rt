@@ -1,8 +1,10 @@
+//! The tree: how it is made, what is found in it, and how nodes are added and taken out.
+
 ghost use Rattle.std.specs.Prelude.{◌≡◌, ◌++◌, true, [], None, Some, is_some, IfOk, IfSome, OnOk, OnErr, MatchOption};
 ghost use Rattle.std.specs.FinMap as maps;
 ghost use Rattle.std.specs.Option.{option_copied};
 ghost use Rattle.file_tree.specs.Nodes.{AreInParents, ArePathsOnce, IsAt, IsFree, HasNoEntry, added, is_directory, path_in, step_from};
-ghost use Rattle.file_tree.specs.Plain.{IsMirrored, plain, plain_without, item_of, item_in, steps_of};
+ghost use Rattle.file_tree.specs.Plain.{IsMirrored, IsWellMade, plain, plain_without, item_of, item_in, steps_of};
 ghost use Rattle.file_tree.specs.Shelves.{place_of};
 
 use crate::entries::EntryIndex;
@@ -52,6 +54,7 @@ impl Tree {
     pub fn new(alloc: Global, label: Sid) -> Result<Tree, Memory>
         ensures nodes { IfOk result (λ tree. tree ≡ maps.insert maps.empty 0 (record { parent = 0; path = []; label = label; bytes = None })) }
         ensures plain { IfOk result (λ tree. plain tree ≡ maps.insert maps.empty [] (record { label = label; bytes = None })) }
+        ensures made { IfOk result IsWellMade }
     {
         let root = Node {
             parent: 0,
@@ -77,6 +80,7 @@ impl Tree {
         ensures once { ArePathsOnce self.now }
         ensures parents { AreInParents self.now }
         ensures mirrored { IsMirrored self.now }
+        ensures made { IsWellMade self.now }
     {
         let _slots = &self.slots;
         0
@@ -128,14 +132,14 @@ impl Tree {
 
     // The number of what stands at a path of names under key 0 below a node.
     fn find_from(&self, here: u32, names: &[Piece]) -> Option<u32>
-        requires { is_some (maps.get self.now here) ≡ true }
+        requires there { is_some (maps.get self.now here) ≡ true }
+        requires made { IsWellMade self.now }
         ensures { let path = path_in self.now here ++ steps_of names.now in
             MatchOption result (IsFree self.now path) (IsAt self.now path) }
     {
         let [name, rest @ ..] = names else {
             return Some(here);
         };
-        let _root = self.root();
         if self.node(here)?.bytes.is_some() {
             return None;
         }
@@ -159,6 +163,7 @@ impl Tree {
         ensures ok { IfOk result (λ number. self.new ≡ maps.insert self.old number (added self.old directory key name.now label bytes)) }
         ensures plain { OnOk result (plain self.new
             ≡ maps.insert (plain self.old) (step_from (path_in self.old directory) key name.now) (record { label = label; bytes = bytes })) }
+        ensures made { OnOk result (IsWellMade self.new) }
         ensures err { OnErr result (self.new ≡ self.old) }
     {
         let path = self.path_below(alloc, directory, key, name)?;
@@ -208,6 +213,7 @@ impl Tree {
         requires empty { HasNoEntry self.old (path_in self.old number) }
         ensures nodes { self.new ≡ maps.remove self.old number }
         ensures plain { plain self.new ≡ plain_without (plain self.old) (maps.get self.old number) }
+        ensures made { IsWellMade self.new }
     {
         let Some(node) = take_node(&mut self.slots, number) else {
             return;

@@ -1,8 +1,10 @@
+//! What nodes hold: labels and bytes, and how they are written.
+
 ghost use Rattle.std.specs.Prelude.{◌≡◌, ◌+◌, ◌-◌, ◌^◌, ◌<◌, ◌++◌, length, take, true, false, replicate, IfOk, OnOk, OnErr};
 ghost use Rattle.std.specs.FinMap as maps;
 ghost use Rattle.file_tree.specs.Bytes.{filler, written};
 ghost use Rattle.file_tree.specs.Nodes.{bytes_of, is_file, relabelled, with_bytes};
-ghost use Rattle.file_tree.specs.Plain.{plain, plain_relabelled, plain_with_bytes};
+ghost use Rattle.file_tree.specs.Plain.{IsWellMade, plain, plain_relabelled, plain_with_bytes};
 
 use crate::node::Node;
 use crate::slots::{put_node, take_node};
@@ -19,6 +21,7 @@ impl Tree {
     pub fn set_label(&mut self, number: u32, label: Sid)
         ensures nodes { self.new ≡ relabelled self.old number label }
         ensures plain { plain self.new ≡ plain_relabelled (plain self.old) label (maps.get self.old number) }
+        ensures made { IsWellMade self.new }
     {
         let Some(node) = take_node(&mut self.slots, number) else {
             return;
@@ -46,6 +49,7 @@ impl Tree {
         requires { is_file (maps.get self.old number) ≡ true }
         ensures nodes { self.new ≡ with_bytes self.old number bytes }
         ensures plain { plain self.new ≡ plain_with_bytes (plain self.old) bytes (maps.get self.old number) }
+        ensures made { IsWellMade self.new }
     {
         let Some(node) = take_node(&mut self.slots, number) else {
             return;
@@ -80,6 +84,7 @@ impl Tree {
         ensures ok { OnOk result (self.new ≡ with_bytes self.old number (written (bytes_of (maps.get self.old number)) offset piece.now)) }
         ensures plain { let was = maps.get self.old number in
             OnOk result (plain self.new ≡ plain_with_bytes (plain self.old) (written (bytes_of was) offset piece.now) was) }
+        ensures made { OnOk result (IsWellMade self.new) }
         ensures err { OnErr result (self.new ≡ self.old) }
     {
         let bytes = write_over(alloc, self.bytes(number), offset as usize, piece)?;
@@ -93,6 +98,7 @@ impl Tree {
         ensures ok { OnOk result (self.new ≡ with_bytes self.old number (bytes_of (maps.get self.old number) ++ piece.now)) }
         ensures plain { let was = maps.get self.old number in
             OnOk result (plain self.new ≡ plain_with_bytes (plain self.old) (bytes_of was ++ piece.now) was) }
+        ensures made { OnOk result (IsWellMade self.new) }
         ensures err { OnErr result (self.new ≡ self.old) }
     {
         let mut bytes = Piece::of(alloc, self.bytes(number))?;

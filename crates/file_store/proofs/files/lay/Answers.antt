@@ -19,4 +19,4 @@ add-requires-clause-free c =
     let here : path_in nodes directory ≡ steps_of above = ap path_of at.held ∙ at.at in
     let path : step_from (path_in nodes directory) 0 c.as_bytes.result.now ≡ steps_of c.args.node.now.path =
     (λ i. step_from (here i) 0 (c.as_bytes.ensures i)) ∙ steps_pushed above name ∙ ap steps_of (sym split.0 ∙ c.as_slice.ensures) in
-    nothing_at nodes c.root-root.ensures.mirrored _ (ap (maps.get (plain nodes)) path ∙ c.requires.free)
+    nothing_at nodes c.requires.made.mirrored _ (ap (maps.get (plain nodes)) path ∙ c.requires.may.free)

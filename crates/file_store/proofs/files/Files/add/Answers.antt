@@ -1,7 +1,7 @@
 use Rattle.std.specs.FinMap as maps
 use Rattle.file_tree.specs.Nodes.{added, path_in, step_from}
 use Rattle.file_tree.specs.Plain.{plain}
-use Rattle.file_store.specs.Stores.{Shown, IsWellMade}
+use Rattle.file_store.specs.Stores.{Shown}
 use Rattle.file_store.proofs.StepLemmas.{step_added, safe_added, state_added}
 use Rattle.file_store.proofs.files.Files.add.Goals as goal
 
@@ -11,9 +11,8 @@ add-requires-clause-free g c = rw (← c.self.view_is) at c.requires.free
 pub invariant_of-self-2 : goal.invariant_of-self-2
 invariant_of-self-2 g c =
     let shown : Shown = record { opening = c.self.inside.opening; nodes = c.self.inside.tree; rights = c.self.inside.grants } in
-    let made : IsWellMade c.add.new.self = record { root = c.root-root.ensures.directory; root_path = c.root-root.ensures.path; once = c.root-root.ensures.once; parents = c.root-root.ensures.parents; mirrored = c.root-root.ensures.mirrored } in
     let child = added shown.nodes c.args.directory c.args.key c.args.name.now c.args.label c.args.bytes in
-    step_added shown c.in_ok-_number._number child c.in_ok-_number.ensures.unused c.add.new.self c.in_ok-_number.ensures.ok c.self.invariant made
+    step_added shown c.in_ok-_number._number child c.in_ok-_number.ensures.unused c.add.new.self c.in_ok-_number.ensures.ok c.self.invariant c.in_ok-_number.ensures.made
 
 pub returns-clause-state : goal.returns-clause-state
 returns-clause-state g c =
@@ -25,6 +24,5 @@ returns-clause-state g c =
 pub returns-clause-safe : goal.returns-clause-safe
 returns-clause-safe g c = λ d known kept.
     let shown : Shown = record { opening = c.self.inside.opening; nodes = c.self.inside.tree; rights = c.self.inside.grants } in
-    let made : IsWellMade c.add.new.self = record { root = c.root-root.ensures.directory; root_path = c.root-root.ensures.path; once = c.root-root.ensures.once; parents = c.root-root.ensures.parents; mirrored = c.root-root.ensures.mirrored } in
     let child = added shown.nodes c.args.directory c.args.key c.args.name.now c.args.label c.args.bytes in
-    safe_added shown c.in_ok-_number._number child c.in_ok-_number.ensures.unused c.add.new.self c.in_ok-_number.ensures.ok c.self.invariant made d known (rw (← c.self.view_is) at kept)
+    safe_added shown c.in_ok-_number._number child c.in_ok-_number.ensures.unused c.add.new.self c.in_ok-_number.ensures.ok c.self.invariant c.in_ok-_number.ensures.made d known (rw (← c.self.view_is) at kept)

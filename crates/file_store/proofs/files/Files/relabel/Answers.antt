@@ -1,6 +1,6 @@
 use Rattle.std.specs.FinMap as maps
 use Rattle.file_tree.specs.Plain.{plain, plain_relabelled}
-use Rattle.file_store.specs.Stores.{Shown, IsWellMade}
+use Rattle.file_store.specs.Stores.{Shown}
 use Rattle.file_store.specs.Laws.{safe_is}
 use Rattle.file_store.proofs.StepLemmas.{step_relabelled, safe_relabelled, state_relabelled, follows_relabelled}
 use Rattle.file_store.proofs.files.Files.relabel.Goals as goal
@@ -13,9 +13,8 @@ relabel-requires-clause-fit g c =
 pub invariant_of-self-2 : goal.invariant_of-self-2
 invariant_of-self-2 g c =
     let shown : Shown = record { opening = c.self.inside.opening; nodes = c.self.inside.tree; rights = c.self.inside.grants } in
-    let made : IsWellMade c.set_label.new.self = record { root = c.root-root.ensures.directory; root_path = c.root-root.ensures.path; once = c.root-root.ensures.once; parents = c.root-root.ensures.parents; mirrored = c.root-root.ensures.mirrored } in
     let moved = c.relabel.ensures in
-    step_relabelled shown c.args.object (rw (← c.self.view_is) at c.requires.there) c.args.label c.set_label.new.self c.relabel.new.self c.set_label.ensures.nodes moved.rule moved.class c.in_ok-relabel.ensures.claims c.self.invariant made
+    step_relabelled shown c.args.object (rw (← c.self.view_is) at c.requires.there) c.args.label c.set_label.new.self c.relabel.new.self c.set_label.ensures.nodes moved.rule moved.class c.in_ok-relabel.ensures.claims c.self.invariant c.set_label.ensures.made
 
 pub returns-clause-state : goal.returns-clause-state
 returns-clause-state g c =
@@ -33,6 +32,5 @@ returns-clause-follows g c =
 pub returns-clause-safe : goal.returns-clause-safe
 returns-clause-safe g c =
     let shown : Shown = record { opening = c.self.inside.opening; nodes = c.self.inside.tree; rights = c.self.inside.grants } in
-    let made : IsWellMade c.set_label.new.self = record { root = c.root-root.ensures.directory; root_path = c.root-root.ensures.path; once = c.root-root.ensures.once; parents = c.root-root.ensures.parents; mirrored = c.root-root.ensures.mirrored } in
     let moved = c.relabel.ensures in
-    safe_relabelled shown c.args.object (rw (← c.self.view_is) at c.requires.there) c.args.label c.set_label.new.self c.relabel.new.self c.set_label.ensures.nodes moved.rule moved.class c.in_ok-relabel.ensures.claims c.self.invariant made (g.A.Asker.decides c.args.asker.now) c.requires.known (rw (← c.self.view_is) at c.requires.safe) moved.fit
+    safe_relabelled shown c.args.object (rw (← c.self.view_is) at c.requires.there) c.args.label c.set_label.new.self c.relabel.new.self c.set_label.ensures.nodes moved.rule moved.class c.in_ok-relabel.ensures.claims c.self.invariant c.set_label.ensures.made (g.A.Asker.decides c.args.asker.now) c.requires.known (rw (← c.self.view_is) at c.requires.safe) moved.fit

@@ -2,16 +2,15 @@ use Rattle.std.specs.FinMap as maps
 use Rattle.file_tree.specs.Bytes.{written}
 use Rattle.file_tree.specs.Nodes.{bytes_of}
 use Rattle.file_tree.specs.Plain.{plain, plain_with_bytes}
-use Rattle.file_store.specs.Stores.{Shown, IsWellMade}
+use Rattle.file_store.specs.Stores.{Shown}
 use Rattle.file_store.proofs.StepLemmas.{step_written, safe_written, state_written}
 use Rattle.file_store.proofs.files.Files.write.Goals as goal
 
 pub invariant_of-self-2 : goal.invariant_of-self-2
 invariant_of-self-2 g c =
     let shown : Shown = record { opening = c.self.inside.opening; nodes = c.self.inside.tree; rights = c.self.inside.grants } in
-    let made : IsWellMade c.write.new.self = record { root = c.root-root.ensures.directory; root_path = c.root-root.ensures.path; once = c.root-root.ensures.once; parents = c.root-root.ensures.parents; mirrored = c.root-root.ensures.mirrored } in
     let bytes = written (bytes_of (maps.get shown.nodes c.args.object)) c.args.offset c.args.piece.now in
-    step_written shown c.args.object (rw (← c.self.view_is) at c.requires) bytes c.write.new.self c.in_ok-write.ensures.ok c.self.invariant made
+    step_written shown c.args.object (rw (← c.self.view_is) at c.requires) bytes c.write.new.self c.in_ok-write.ensures.ok c.self.invariant c.in_ok-write.ensures.made
 
 pub returns-clause-state : goal.returns-clause-state
 returns-clause-state g c =
@@ -22,6 +21,5 @@ returns-clause-state g c =
 pub returns-clause-safe : goal.returns-clause-safe
 returns-clause-safe g c = λ d kept.
     let shown : Shown = record { opening = c.self.inside.opening; nodes = c.self.inside.tree; rights = c.self.inside.grants } in
-    let made : IsWellMade c.write.new.self = record { root = c.root-root.ensures.directory; root_path = c.root-root.ensures.path; once = c.root-root.ensures.once; parents = c.root-root.ensures.parents; mirrored = c.root-root.ensures.mirrored } in
     let bytes = written (bytes_of (maps.get shown.nodes c.args.object)) c.args.offset c.args.piece.now in
-    safe_written shown c.args.object (rw (← c.self.view_is) at c.requires) bytes c.write.new.self c.in_ok-write.ensures.ok c.self.invariant made d (rw (← c.self.view_is) at kept)
+    safe_written shown c.args.object (rw (← c.self.view_is) at c.requires) bytes c.write.new.self c.in_ok-write.ensures.ok c.self.invariant c.in_ok-write.ensures.made d (rw (← c.self.view_is) at kept)

@@ -14,7 +14,7 @@ returns-then-is_some t c =
     let held : maps.get nodes c.args.here ≡ Some file = sym c.in_ok-node.ensures.node in
     let rest = steps_of (take (length names - 1) (drop 1 names)) in
     subst (IsFree nodes) ((λ i. sym (ap path_of held) i ++ first_step names c.name-item.result c.in-len1-up.len_at_least c.name-item.is i))
-    (below_file nodes c.root-root.ensures.path c.root-root.ensures.parents c.root-root.ensures.once c.args.here file held (sym c.if-is_some.ensures)
+    (below_file nodes c.requires.made.root_path c.requires.made.parents c.requires.made.once c.args.here file held (sym c.if-is_some.ensures)
     (record { key = 0; name = c.name-item.result }) rest)
 
 pub returns-in_err-next : goal.returns-in_err-next
@@ -24,7 +24,7 @@ returns-in_err-next t c =
     let here = path_in nodes c.args.here in
     let path = here ++ steps_of names in
     let free = subst (IsFree nodes) (walked_on here names c.name-item.result c.as_bytes.result.now c.in-len1-up.len_at_least c.name-item.is c.as_bytes.ensures)
-    (free_below nodes c.root-root.ensures.path c.root-root.ensures.parents (step_from here 0 c.as_bytes.result.now) c.in_err-next.ensures.there (steps_of (take (length names - 1) (drop 1 names)))) in
+    (free_below nodes c.requires.made.root_path c.requires.made.parents (step_from here 0 c.as_bytes.result.now) c.in_err-next.ensures.there (steps_of (take (length names - 1) (drop 1 names)))) in
     subst (λ found. MatchOption found (IsFree nodes path) (IsAt nodes path)) (sym c.from_residual-in_err-next.ensures) free
 
 pub returns : goal.returns

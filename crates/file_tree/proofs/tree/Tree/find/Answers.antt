@@ -7,8 +7,8 @@ use Rattle.file_tree.proofs.TreeLemmas.{directory_is}
 use Rattle.file_tree.proofs.BelowLemmas.{item-is}
 use Rattle.file_tree.proofs.tree.Tree.find.Goals as goal
 
-pub find_from-requires : goal.find_from-requires
-find_from-requires c =
+pub find_from-requires-clause-there : goal.find_from-requires-clause-there
+find_from-requires-clause-there c =
     let nodes = c.args.self.now in
     ap (λ number. is_some (maps.get nodes number)) c.root.ensures.root ∙ ap is_some (directory_is (maps.get nodes 0) c.root.ensures.directory).1
 

@@ -7,7 +7,7 @@ use Rattle.file_tree.specs.Nodes.{IsTree, IsPlaced, HasNoEntry, path_of, step_fr
 use Rattle.file_tree.proofs.Paths.{same_some, last-got}
 use Rattle.file_tree.proofs.TreeLemmas.{removed_tree, len_less, some_len, nothing_out}
 use Rattle.file_tree.specs.Plain.{plain, plain_without}
-use Rattle.file_tree.proofs.PlainLemmas.{plain_removed, once_of}
+use Rattle.file_tree.proofs.PlainLemmas.{plain_removed, once_of, well_made}
 use Rattle.file_tree.proofs.tree.Tree.remove.Goals as goal
 
 pub invariant_of-self : goal.invariant_of-self
@@ -57,3 +57,22 @@ overflow_sub-self c =
     let some : 0 < maps.len (map_of c.self.inside.slots.items) = some_len (map_of c.self.inside.slots.items) c.args.number c.in-Some.node (sym c.in-Some.ensures.node) in
     let used : c.self.inside.used ≡ maps.len (map_of c.self.inside.slots.items) = c.self.invariant.2 in
     omega (arith, some, used)
+
+pub returns-in_default-clause-made : goal.returns-in_default-clause-made
+returns-in_default-clause-made c =
+    let nodes = map_of c.self.inside.slots.items in
+    well_made _ c.self.inside.entries
+    (subst (λ m. IsTree m c.self.inside.entries) (sym (c.take_node.ensures.map ∙ nothing_out nodes c.args.number (sym c.in_default.ensures.node))) c.self.invariant.0)
+
+pub returns-clause-made : goal.returns-clause-made
+returns-clause-made c =
+    let nodes = map_of c.self.inside.slots.items in
+    let node = c.in-Some.node in
+    let step = c.in-Some-last.step.now in
+    let held = sym c.in-Some.ensures.node in
+    let was : IsPlaced nodes c.self.inside.entries c.args.number node = c.self.invariant.0.placed c.args.number node held c.requires.not_root in
+    let last : was.step ≡ step = same_some was.step step (sym (last-got was.above.path was.step) ∙ ap (λ path. slice_get path (length path - 1)) (sym was.path ∙ sym c.as_slice.ensures) ∙ sym c.in-Some-last.ensures.value) in
+    let at : node.path ≡ step_from was.above.path step.key step.name = was.path ∙ ap (λ s. was.above.path ++ s ∷ []) last in
+    well_made _ c.remove.new.self (subst (λ m. IsTree m c.remove.new.self) (sym c.take_node.ensures.map) (removed_tree nodes c.self.inside.entries c.self.invariant.0 c.remove.new.self c.args.number node held c.requires.not_root
+    (subst (HasNoEntry nodes) (ap path_of held) (rw (← c.self.view_is) at c.requires.empty)) step.key step.name was.above.path at
+    (λ p q. c.remove.ensures p q ∙ (λ i. changed_at c.self.inside.entries (c.place_of.ensures i) (c.as_bytes.ensures i) None p q))))

@@ -5,7 +5,7 @@ use Rattle.file_tree.specs.Nodes.{IsTree, in_place}
 use Rattle.file_tree.proofs.TreeLemmas.{kept_tree, len_same, nothing_out, put_back}
 use Rattle.file_tree.specs.declared.node.Node.{Node}
 use Rattle.file_tree.specs.Plain.{plain, plain_relabelled}
-use Rattle.file_tree.proofs.PlainLemmas.{plain_kept, once_of}
+use Rattle.file_tree.proofs.PlainLemmas.{plain_kept, once_of, well_made}
 use Rattle.file_tree.proofs.tree.Tree.set_label.Goals as goal
 
 pub invariant_of-self : goal.invariant_of-self
@@ -55,3 +55,17 @@ returns-clause-plain c =
     let kept = kept_tree nodes c.self.inside.entries c.self.invariant.0 c.args.number node other held refl refl (λ none. none) in
     rw (← c.self.view_is) (ap plain (c.put_node.ensures.map ∙ ap (λ m. maps.insert m c.args.number other) c.take_node.ensures.map ∙ put_back nodes c.args.number other)
     ∙ plain_kept nodes c.args.number node other (once_of nodes c.self.inside.entries c.self.invariant.0) (once_of _ c.self.inside.entries kept) held refl ∙ sym (ap (plain_relabelled (plain nodes) c.args.label) held))
+
+pub returns-in_default-clause-made : goal.returns-in_default-clause-made
+returns-in_default-clause-made c =
+    let nodes = map_of c.self.inside.slots.items in
+    well_made _ c.self.inside.entries
+    (subst (λ m. IsTree m c.self.inside.entries) (sym (c.take_node.ensures.map ∙ nothing_out nodes c.args.number (sym c.in_default.ensures.node))) c.self.invariant.0)
+
+pub returns-clause-made : goal.returns-clause-made
+returns-clause-made c =
+    let nodes = map_of c.self.inside.slots.items in
+    let other : Node = record { parent = c.in-Some.node.parent; path = c.in-Some.node.path; label = c.args.label; bytes = c.in-Some.node.bytes } in
+    let kept = kept_tree nodes c.self.inside.entries c.self.invariant.0 c.args.number c.in-Some.node other (sym c.in-Some.ensures.node) refl refl (λ none. none) in
+    well_made _ c.self.inside.entries
+    (subst (λ m. IsTree m c.self.inside.entries) (sym (c.put_node.ensures.map ∙ ap (λ m. maps.insert m c.args.number other) c.take_node.ensures.map ∙ put_back nodes c.args.number other)) kept)
