@@ -1,3 +1,5 @@
+//! The entries of directories, by place and name.
+
 ghost use Rattle.std.specs.Prelude.{◌≡◌, ℕ, List, None, Some, OnOk, OnErr, IfOk, take, drop};
 ghost use Rattle.std.specs.FinMap as maps;
 ghost use Rattle.file_tree.specs.Shelves.{number_at, changed_at, count_on, names_on};

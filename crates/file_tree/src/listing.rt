@@ -1,3 +1,5 @@
+//! What directories hold.
+
 ghost use Rattle.std.specs.Prelude.{◌≡◌, true, length, take, drop, IfOk, MatchBool};
 ghost use Rattle.std.specs.List.{list_any};
 ghost use Rattle.std.specs.FinMap as maps;

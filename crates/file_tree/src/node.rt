@@ -1,3 +1,5 @@
+//! A node of the tree.
+
 use crate::step::Step;
 use flask_sid::{Piece, Rows, Sid};
 

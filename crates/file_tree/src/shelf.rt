@@ -1,3 +1,5 @@
+//! Numbers by names.
+
 ghost use Rattle.std.specs.Prelude.{◌≡◌, OnOk, OnErr, IfOk, take, drop};
 ghost use Rattle.std.specs.FinMap as maps;
 

@@ -1,3 +1,5 @@
+//! Steps of paths.
+
 ghost use Rattle.std.specs.Prelude.{◌≡◌, IfOk};
 
 use flask_sid::{Memory, Piece, Rows};

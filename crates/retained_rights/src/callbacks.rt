@@ -1,3 +1,5 @@
+//! The two callbacks that meet the rules.
+
 use crate::rule::Callback;
 use access_vectors::Vector;
 

@@ -1,3 +1,5 @@
+//! How the grants' table and its indexes change together.
+
 ghost use Rattle.std.specs.Prelude.{◌≡◌, ℕ, ◌*◌, ◌<◌, ◌≤◌, ◌==◌, ◌&&◌, ◌||◌, not, true, false, None, Some, length, OnOk, OnErr, if◌then◌else◌};
 ghost use Rattle.std.specs.FinMap as maps;
 ghost use Rattle.slot_tables.specs.Words.{holds};
@@ -31,9 +33,8 @@ fn make_room(table: &mut Table<Grant>, stale: &mut PlaceSet, place: u32) -> Resu
     table.grow(place)
 }
 
-// Makes the rows for a free slot in both indexes. Both say what they said, also after `Memory`, when no row is left that was
-// made here.
-fn make_rows(
+// Gives a free slot its place in both indexes. After `Memory` both say what they said.
+fn put_both(
     by_pair: &mut PlaceIndex,
     name: u32,
     by_object: &mut PlaceIndex,
@@ -42,13 +43,13 @@ fn make_rows(
 ) -> Result<(), Memory>
     requires small { place < 65536 }
     requires free { on by_pair.old name place ≡ false }
-    ensures pairs { (n q : ℕ) → on by_pair.new n q ≡ on by_pair.old n q }
-    ensures objects { (n q : ℕ) → on by_object.new n q ≡ on by_object.old n q }
-    ensures pair { OnOk result (has_row by_pair.new name place ≡ true) }
-    ensures object { OnOk result (has_row by_object.new object place ≡ true) }
+    ensures pairs { OnOk result ((n q : ℕ) → on by_pair.new n q ≡ ((n == name && q == place) || on by_pair.old n q)) }
+    ensures objects { OnOk result ((n q : ℕ) → on by_object.new n q ≡ ((n == object && q == place) || on by_object.old n q)) }
+    ensures pairs_as_before { OnErr result ((n q : ℕ) → on by_pair.new n q ≡ on by_pair.old n q) }
+    ensures objects_as_before { OnErr result ((n q : ℕ) → on by_object.new n q ≡ on by_object.old n q) }
 {
-    by_pair.make_row(name, place)?;
-    let Ok(()) = by_object.make_row(object, place) else {
+    by_pair.put(name, place)?;
+    let Ok(()) = by_object.put(object, place) else {
         by_pair.remove(name, place);
         return Err(Memory);
     };
@@ -77,10 +78,8 @@ pub(crate) fn fill(
     let Grant { object, s, t, .. } = grant;
     let name = pair_name(s, t);
     make_room(table, stale, place)?;
-    make_rows(by_pair, name, by_object, object, place)?;
+    put_both(by_pair, name, by_object, object, place)?;
     table.set(place, grant);
-    by_pair.add(name, place);
-    by_object.add(object, place);
     if is_stale {
         stale.add(place);
     }

@@ -1,3 +1,5 @@
+//! A right that a slot holds, and what it lets its client do.
+
 use access_vectors::Vector;
 use flask_sid::Sid;
 

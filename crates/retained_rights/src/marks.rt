@@ -1,3 +1,5 @@
+//! How a change of policy finds its stale slots, by their pairs.
+
 ghost use Rattle.std.specs.Prelude.{◌≡◌, ℕ, ◌*◌, ◌<◌, ◌==◌, false, Some, length, IsTrue, if◌then◌else◌};
 ghost use Rattle.std.specs.FinMap as maps;
 ghost use Rattle.slot_tables.specs.Words.{holds};

@@ -1,3 +1,5 @@
+//! The rule from mode and vector to usable bits.
+
 ghost use Rattle.std.specs.Prelude.{ℕ};
 
 use access_vectors::Vector;

@@ -1,3 +1,5 @@
+//! A callback with the rule that it meets.
+
 ghost use Rattle.std.specs.Prelude.{◌≡◌};
 ghost use Rattle.retained_rights.specs.Rules.{Meets, ruled};
 

@@ -1,3 +1,5 @@
+//! Walks over the slots: those on an object, and the stale ones.
+
 ghost use Rattle.std.specs.Prelude.{◌≡◌, ℕ, ◌+◌, ◌≤◌, ◌&&◌, not, true, Some, min, length, take, drop, IsTrue};
 ghost use Rattle.std.specs.FinMap as maps;
 ghost use Rattle.access_vectors.specs.Phases.{version_at, number_of, is_pending, MayName, AreVersions};

@@ -1,3 +1,5 @@
+//! The grants of slots with their indexes.
+
 ghost use Rattle.std.specs.Prelude.{◌≡◌, ℕ, ◌<◌, ◌==◌, ◌&&◌, ◌||◌, not, true, false, None, Some, [], length, is_some, IfSome, OnOk, OnErr, if◌then◌else◌};
 ghost use Rattle.std.specs.FinMap as maps;
 ghost use Rattle.slot_tables.specs.Words.{holds, places, IsNext};

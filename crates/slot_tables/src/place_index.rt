@@ -1,4 +1,6 @@
-ghost use Rattle.std.specs.Prelude.{◌≡◌, ℕ, ◌+◌, ◌*◌, ◌/◌, ◌<◌, ◌==◌, ◌&&◌, ◌||◌, not, true, [], OnOk};
+//! Places by name.
+
+ghost use Rattle.std.specs.Prelude.{◌≡◌, ℕ, ◌+◌, ◌*◌, ◌/◌, ◌<◌, ◌==◌, ◌&&◌, ◌||◌, not, true, [], OnOk, OnErr};
 ghost use Rattle.std.specs.Ordering.{nat_cmp};
 ghost use Rattle.std.specs.List.Sorted.{IsStrictlySortedBy};
 ghost use Rattle.std.specs.Map.{keys_of};
@@ -71,6 +73,18 @@ impl PlaceIndex {
         if !self.rows.contains_key(&key) {
             self.rows.insert(key, 0)?;
         }
+        Ok(())
+    }
+
+    /// Gives the name a place. After `Memory` all is as before.
+    pub fn put(&mut self, name: u32, place: u32) -> Result<(), Memory>
+        requires { place < 65536 }
+        ensures on { OnOk result ((n q : ℕ) → on self.new n q ≡ ((n == name && q == place) || on self.old n q)) }
+        ensures as_before { OnErr result (self.new ≡ self.old) }
+    {
+        let key = row_key(name, place);
+        let word = self.rows.get(&key).copied().unwrap_or(0);
+        self.rows.insert(key, word | (1 << (place % 64)))?;
         Ok(())
     }
 

@@ -1,3 +1,5 @@
+//! A set of places.
+
 ghost use Rattle.std.specs.Prelude.{◌≡◌, ℕ, ◌+◌, ◌*◌, ◌/◌, ◌%◌, ◌<◌, ◌≤◌, ◌==◌, ◌&&◌, ◌||◌, not, true, [], ◌∷◌, length, IfSome, OnOk};
 ghost use Rattle.slot_tables.specs.Words.{has_bit, holds, places, IsNext};
 

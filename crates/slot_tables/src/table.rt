@@ -1,3 +1,5 @@
+//! A table of slots.
+
 ghost use Rattle.std.specs.Prelude.{◌≡◌, ◌<◌, ◌≤◌, None, [], length, OnOk};
 ghost use Rattle.std.specs.FinMap as maps;
 ghost use Rattle.slot_tables.specs.Slots.{map_of, slot_at};
