@@ -33,7 +33,7 @@ loop-place-preserved g c =
           ∙ ap (λ v. (g.D.Decider.decides c.args.decider.now).vector v was.s was.t c.args.class) (c.version_at-version.ensures ∙ ap (version_at c.args.phase) c.number-number.ensures)))
           c.refresh.ensures.stale),
       omega arith,
-      omega (arith, c.loop-place.invariant.2, c.tick.ensures),
+      omega (arith, c.loop-place.invariant.2),
     )
 
 ended : (k left : ℕ) (P : Type 0) → left ≤ k → (left ≡ 0) ⊎ P → (k - left ≡ k) ⊎ P
