@@ -3,10 +3,10 @@ use Rattle.std.proofs.Common.{◌≡◌, ℕ, true, false, List, [], ◌∷◌, 
 use Rattle.std.specs.FinMap as maps
 use Rattle.std.specs.Ordering.{nat_cmp}
 use Rattle.std.specs.Cmp.{nat_cmp_total}
-use Rattle.access_vectors.specs.Asking.{question}
 use Rattle.access_vectors.specs.Perms.{file_read, dir_search}
 use Rattle.access_vectors.specs.Vectors.{has}
 use Rattle.access_vectors.specs.declared.asked.Asked.{Asked}
+use Rattle.mode_questions.specs.Requests.{Request}
 use Rattle.file_tree.specs.Nodes.{step_from}
 use Rattle.file_tree.specs.Plain.{PlainTree, Item}
 use Rattle.file_tree.proofs.PlainLemmas.{paths_total}
@@ -49,28 +49,32 @@ day_state = record { opening = one_file_opening; tree = day_tree; slots = maps.i
 abbrev open_asked : List Asked
 open_asked = record { s = 1; t = 2; perm = dir_search; yes = true } ∷ record { s = 1; t = 3; perm = file_read; yes = true } ∷ []
 
+-- the client's request under a number, whose version has the same number
+abbrev day_request : ℕ → Request
+day_request number = record { decisions = day_decisions; version = number; client = 0; subject = 1; number = number }
+
 -- the walk to the file, by what stands at the root
 abbrev day_walk : Option Item → Walk
 day_walk root =
-    looked_into day_decisions 1 0 0 0 [] root
-    (λ label. walked_from day_decisions day_tree 1 0 0 label (step_from [] (entry_key day_decisions 0 1 label) (codes "motd")) [])
+    looked_into (day_request 0) 0 [] root
+    (λ label. walked_from (day_request 0) day_tree label (step_from [] (entry_key (day_request 0) label) (codes "motd")) [])
 
 -- the open, by what stands at the root, and then by what stands at the end of the walk
 abbrev by_root : Option Item → FileAnswer
 by_root root =
     let state = opened_with one_file_opening in
     let walk = day_walk root in
-    after_walk state walk (opened_at day_decisions state 1 0 0 5 1 walk.at (maps.get day_tree walk.at))
+    after_walk state walk (opened_at (day_request 0) state 5 1 walk.at (maps.get day_tree walk.at))
 
 abbrev by_file : Option Item → FileAnswer
 by_file file =
     let state = opened_with one_file_opening in
-    after_walk state (day_walk (Some root_item)) (opened_at day_decisions state 1 0 0 5 1 day_path file)
+    after_walk state (day_walk (Some root_item)) (opened_at (day_request 0) state 5 1 day_path file)
 
 open_is : answer day_decisions (opened_with one_file_opening) 0 day_open 0 0 ≡ record { reply = Done; state = day_state; asked = open_asked }
 unfolding has
 open_is =
-    ap (open_into day_decisions (opened_with one_file_opening) 1 0 0 5 (codes "motd" ∷ []) 1) (maps.get-empty nat_cmp 5)
+    ap (open_into (day_request 0) (opened_with one_file_opening) 5 (codes "motd" ∷ []) 1) (maps.get-empty nat_cmp 5)
     ∙ ap by_root root_is ∙ ap by_file file_is
 
 state_is : opened_state one_file_opening ≡ day_state
@@ -82,12 +86,12 @@ held_is = maps.get-insert nat_cmp_total maps.empty 5 day_held 5
 -- a read of the first two bytes, by what the slot holds, and then by what stands at its path
 abbrev read_by_slot : ℕ → Option Held → FileAnswer
 read_by_slot number held =
-    used day_decisions day_state 1 number number file_read held (λ at label bytes. saying day_state (Bytes (take 2 (drop 0 bytes))))
+    used (day_request number) day_state file_read held (λ at label bytes. saying day_state (Bytes (take 2 (drop 0 bytes))))
 
 abbrev read_by_file : ℕ → Option Item → FileAnswer
 read_by_file number file =
     with_file day_state file
-    (λ label bytes. asking day_state number (question day_decisions number 1 label file_read) (saying day_state (Bytes (take 2 (drop 0 bytes)))))
+    (λ label bytes. asking (day_request number) day_state label file_read (saying day_state (Bytes (take 2 (drop 0 bytes)))))
 
 allowed_is : answer day_decisions day_state 0 day_read 0 0
     ≡ record { reply = Bytes (codes "da"); state = day_state; asked = record { s = 1; t = 3; perm = file_read; yes = true } ∷ [] }

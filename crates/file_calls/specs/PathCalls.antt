@@ -6,10 +6,9 @@ use Rattle.std.specs.FinMap.{FinMap}
 use Rattle.std.specs.Ordering.{nat_cmp}
 use Rattle.access_vectors.specs.Table.{Permission}
 use Rattle.access_vectors.specs.Perms.{file_create, file_unlink, file_getattr, file_relabelfrom, file_relabelto, dir_read, dir_create, dir_add_name, dir_remove_name, dir_getattr, dir_relabelfrom, dir_relabelto}
-use Rattle.access_vectors.specs.Decisions.{Decisions}
-use Rattle.access_vectors.specs.Asking.{question}
 use Rattle.access_vectors.specs.declared.class.Class.{Class}
 use Rattle.access_vectors.specs.declared.class.Class.TheVariants as class
+use Rattle.mode_questions.specs.Requests.{Request}
 use Rattle.file_tree.specs.Plain.{Item, names_below, has_entry_below}
 use Rattle.file_tree.specs.declared.step.Step.{Step}
 use Rattle.file_calls.specs.Openings.{node_limit}
@@ -40,6 +39,10 @@ abbrev pub relabelto_perm : Option (List ℕ) → Permission
 relabelto_perm None = dir_relabelto
 relabelto_perm (Some bytes) = file_relabelto
 
+-- the label of what the subject makes in a directory of the label `above`
+abbrev pub new_label : Request → ℕ → Option (List ℕ) → ℕ
+new_label r above bytes = r.decisions.label r.version r.subject above (class_of bytes)
+
 -- something new stands at a path, where there is room
 abbrev pub put_in : FileState → List Step → Item → FileAnswer
 put_in state at item =
@@ -48,18 +51,18 @@ put_in state at item =
 
 -- making what holds this, in a directory of the label `above`: Exists; the new label; add_name on the directory; create on
 -- the new label; TooMany
-abbrev pub made_at : Decisions → FileState → ℕ → ℕ → ℕ → Option (List ℕ) → List Step → ℕ → Option Item → FileAnswer
-made_at d state s number version bytes at above (Some item) = saying state reply.Exists
-made_at d state s number version bytes at above None =
-    asking state number (question d version s above dir_add_name)
-    (asking state number (question d version s (d.label version s above (class_of bytes)) (create_perm bytes))
-    (put_in state at (record { label = d.label version s above (class_of bytes); bytes = bytes })))
+abbrev pub made_at : Request → FileState → Option (List ℕ) → List Step → ℕ → Option Item → FileAnswer
+made_at r state bytes at above (Some item) = saying state reply.Exists
+made_at r state bytes at above None =
+    asking r state above dir_add_name
+    (asking r state (new_label r above bytes) (create_perm bytes)
+    (put_in state at (record { label = new_label r above bytes; bytes = bytes })))
 
 -- mkdir, where nothing is held, and create, where no bytes are
-abbrev pub make_row : Decisions → FileState → ℕ → ℕ → ℕ → List (List ℕ) → Option (List ℕ) → FileAnswer
-make_row d state s number version path bytes =
-    let walk = walked d state s number version path in
-    after_walk state walk (made_at d state s number version bytes walk.at walk.above (maps.get state.tree walk.at))
+abbrev pub make_row : Request → FileState → List (List ℕ) → Option (List ℕ) → FileAnswer
+make_row r state path bytes =
+    let walk = walked r state path in
+    after_walk state walk (made_at r state bytes walk.at walk.above (maps.get state.tree walk.at))
 
 -- the slot holds what stands at a path
 abbrev pub is_held_at : List Step → Option Held → Bool
@@ -80,76 +83,76 @@ taken_out state at =
     }
 
 -- taking out what holds this: unlink on a file; NotEmpty for a directory that has an entry under any key
-abbrev pub unlinked_as : Decisions → FileState → ℕ → ℕ → ℕ → List Step → ℕ → Option (List ℕ) → FileAnswer
-unlinked_as d state s number version at label (Some bytes) = asking state number (question d version s label file_unlink) (taken_out state at)
-unlinked_as d state s number version at label None = if has_entry_below state.tree at then saying state reply.NotEmpty else taken_out state at
+abbrev pub unlinked_as : Request → FileState → List Step → ℕ → Option (List ℕ) → FileAnswer
+unlinked_as r state at label (Some bytes) = asking r state label file_unlink (taken_out state at)
+unlinked_as r state at label None = if has_entry_below state.tree at then saying state reply.NotEmpty else taken_out state at
 
 -- taking out what the walk found: NotFound; remove_name on the directory
-abbrev pub unlinked_at : Decisions → FileState → ℕ → ℕ → ℕ → List Step → ℕ → Option Item → FileAnswer
-unlinked_at d state s number version at above None = saying state reply.NotFound
-unlinked_at d state s number version at above (Some item) =
-    asking state number (question d version s above dir_remove_name) (unlinked_as d state s number version at item.label item.bytes)
+abbrev pub unlinked_at : Request → FileState → List Step → ℕ → Option Item → FileAnswer
+unlinked_at r state at above None = saying state reply.NotFound
+unlinked_at r state at above (Some item) =
+    asking r state above dir_remove_name (unlinked_as r state at item.label item.bytes)
 
 -- unlink: the walk; NotFound; remove_name on the directory; unlink on a file, or NotEmpty for a directory
-abbrev pub unlink_row : Decisions → FileState → ℕ → ℕ → ℕ → List (List ℕ) → FileAnswer
-unlink_row d state s number version path =
-    let walk = walked d state s number version path in
-    after_walk state walk (unlinked_at d state s number version walk.at walk.above (maps.get state.tree walk.at))
+abbrev pub unlink_row : Request → FileState → List (List ℕ) → FileAnswer
+unlink_row r state path =
+    let walk = walked r state path in
+    after_walk state walk (unlinked_at r state walk.at walk.above (maps.get state.tree walk.at))
 
 -- the names that a subject sees in a directory of this label, in byte order
-abbrev pub names_seen : Decisions → FileState → ℕ → ℕ → List Step → ℕ → List (List ℕ)
-names_seen d state s version at label = names_below state.tree at (entry_key d version s label)
+abbrev pub names_seen : Request → FileState → List Step → ℕ → List (List ℕ)
+names_seen r state at label = names_below state.tree at (entry_key r label)
 
 -- how many names one list has at most
 abbrev pub most_names : ℕ
 most_names = 16
 
 -- listing what holds this: NotDir for a file; read on the directory; the names without the first ones
-abbrev pub listed_as : Decisions → FileState → ℕ → ℕ → ℕ → ℕ → List Step → ℕ → Option (List ℕ) → FileAnswer
-listed_as d state s number version skip at label (Some bytes) = saying state reply.NotDir
-listed_as d state s number version skip at label None =
-    asking state number (question d version s label dir_read)
-    (saying state (reply.Names (take most_names (drop skip (names_seen d state s version at label)))))
+abbrev pub listed_as : Request → FileState → ℕ → List Step → ℕ → Option (List ℕ) → FileAnswer
+listed_as r state skip at label (Some bytes) = saying state reply.NotDir
+listed_as r state skip at label None =
+    asking r state label dir_read
+    (saying state (reply.Names (take most_names (drop skip (names_seen r state at label)))))
 
 -- listing what the walk found: NotFound
-abbrev pub listed_at : Decisions → FileState → ℕ → ℕ → ℕ → ℕ → List Step → Option Item → FileAnswer
-listed_at d state s number version skip at None = saying state reply.NotFound
-listed_at d state s number version skip at (Some item) = listed_as d state s number version skip at item.label item.bytes
+abbrev pub listed_at : Request → FileState → ℕ → List Step → Option Item → FileAnswer
+listed_at r state skip at None = saying state reply.NotFound
+listed_at r state skip at (Some item) = listed_as r state skip at item.label item.bytes
 
 -- list: the walk; NotFound; NotDir; read on the directory; the names
-abbrev pub list_row : Decisions → FileState → ℕ → ℕ → ℕ → List (List ℕ) → ℕ → FileAnswer
-list_row d state s number version path skip =
-    let walk = walked d state s number version path in
-    after_walk state walk (listed_at d state s number version skip walk.at (maps.get state.tree walk.at))
+abbrev pub list_row : Request → FileState → List (List ℕ) → ℕ → FileAnswer
+list_row r state path skip =
+    let walk = walked r state path in
+    after_walk state walk (listed_at r state skip walk.at (maps.get state.tree walk.at))
 
 -- how large what holds this is for a subject: of a file its bytes, of a directory the entries that the subject sees
-abbrev pub size_of : Decisions → FileState → ℕ → ℕ → List Step → ℕ → Option (List ℕ) → ℕ
-size_of d state s version at label (Some bytes) = length bytes
-size_of d state s version at label None = length (names_seen d state s version at label)
+abbrev pub size_of : Request → FileState → List Step → ℕ → Option (List ℕ) → ℕ
+size_of r state at label (Some bytes) = length bytes
+size_of r state at label None = length (names_seen r state at label)
 
 -- the attributes of what the walk found: NotFound; getattr on it
-abbrev pub told_at : Decisions → FileState → ℕ → ℕ → ℕ → List Step → Option Item → FileAnswer
-told_at d state s number version at None = saying state reply.NotFound
-told_at d state s number version at (Some item) =
-    asking state number (question d version s item.label (getattr_perm item.bytes))
-    (saying state (reply.Stat item.label (size_of d state s version at item.label item.bytes)))
+abbrev pub told_at : Request → FileState → List Step → Option Item → FileAnswer
+told_at r state at None = saying state reply.NotFound
+told_at r state at (Some item) =
+    asking r state item.label (getattr_perm item.bytes)
+    (saying state (reply.Stat item.label (size_of r state at item.label item.bytes)))
 
 -- stat: the walk; NotFound; getattr; label and size
-abbrev pub stat_row : Decisions → FileState → ℕ → ℕ → ℕ → List (List ℕ) → FileAnswer
-stat_row d state s number version path =
-    let walk = walked d state s number version path in
-    after_walk state walk (told_at d state s number version walk.at (maps.get state.tree walk.at))
+abbrev pub stat_row : Request → FileState → List (List ℕ) → FileAnswer
+stat_row r state path =
+    let walk = walked r state path in
+    after_walk state walk (told_at r state walk.at (maps.get state.tree walk.at))
 
 -- another label for what the walk found: NotFound; relabelfrom on its label; relabelto on the new one
-abbrev pub relabelled_at : Decisions → FileState → ℕ → ℕ → ℕ → ℕ → List Step → Option Item → FileAnswer
-relabelled_at d state s number version label at None = saying state reply.NotFound
-relabelled_at d state s number version label at (Some item) =
-    asking state number (question d version s item.label (relabelfrom_perm item.bytes))
-    (asking state number (question d version s label (relabelto_perm item.bytes))
+abbrev pub relabelled_at : Request → FileState → ℕ → List Step → Option Item → FileAnswer
+relabelled_at r state label at None = saying state reply.NotFound
+relabelled_at r state label at (Some item) =
+    asking r state item.label (relabelfrom_perm item.bytes)
+    (asking r state label (relabelto_perm item.bytes)
     (saying (with_tree state (maps.insert state.tree at (record { label = label; bytes = item.bytes }))) reply.Done))
 
 -- relabel: the walk; NotFound; relabelfrom; relabelto
-abbrev pub relabel_row : Decisions → FileState → ℕ → ℕ → ℕ → List (List ℕ) → ℕ → FileAnswer
-relabel_row d state s number version path label =
-    let walk = walked d state s number version path in
-    after_walk state walk (relabelled_at d state s number version label walk.at (maps.get state.tree walk.at))
+abbrev pub relabel_row : Request → FileState → List (List ℕ) → ℕ → FileAnswer
+relabel_row r state path label =
+    let walk = walked r state path in
+    after_walk state walk (relabelled_at r state label walk.at (maps.get state.tree walk.at))

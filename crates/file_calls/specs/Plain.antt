@@ -5,6 +5,7 @@ use Rattle.access_vectors.specs.Decisions.{Decisions}
 use Rattle.access_vectors.specs.Mapped.{mapped}
 use Rattle.access_vectors.specs.Stale.{Follows, Pair, slot_place}
 use Rattle.manager_history.specs.Answers.{Denial}
+use Rattle.mode_questions.specs.Requests.{Request, with_subject}
 use Rattle.file_tree.specs.Plain.{Item}
 use Rattle.file_tree.specs.declared.step.Step.{Step}
 use Rattle.file_calls.specs.Formed.{IsCall}
@@ -17,25 +18,30 @@ use Rattle.file_calls.specs.declared.call.FileCall.TheVariants as call
 use Rattle.file_calls.specs.declared.call.FileReply.{FileReply}
 use Rattle.file_calls.specs.declared.call.FileReply.TheVariants as reply
 
+-- the plain manager's answer to a call of a request
+abbrev pub answered : Request → FileState → FileCall → FileAnswer
+answered r state (call.Mkdir path) = make_row r state path None
+answered r state (call.Create path) = make_row r state path (Some [])
+answered r state (call.OpenFile slot path mode) = open_row r state (slot_place r.client slot) path mode
+answered r state (call.ReadFile slot offset most) = read_row r state (slot_place r.client slot) offset most
+answered r state (call.WriteFile slot offset piece) = write_row r state (slot_place r.client slot) offset piece
+answered r state (call.AppendFile slot piece) = append_row r state (slot_place r.client slot) piece
+answered r state (call.CloseFile slot) = close_row state (slot_place r.client slot)
+answered r state (call.Unlink path) = unlink_row r state path
+answered r state (call.List path skip) = list_row r state path skip
+answered r state (call.StatFile path) = stat_row r state path
+answered r state (call.Relabel path sid) = relabel_row r state path sid
+answered r state (call.Give slot client target) =
+    give_row (with_subject r (sid_of state client)) state (slot_place r.client slot) (slot_place client target)
+
+-- the request of a caller under a policy number and its version
+abbrev pub request_of : Decisions → FileState → ℕ → ℕ → ℕ → Request
+request_of d state caller number version =
+    record { decisions = d; version = version; client = caller; subject = sid_of state caller; number = number }
+
 -- the plain manager's answer to a caller's call under a policy number and its version
 abbrev pub answer : Decisions → FileState → ℕ → FileCall → ℕ → ℕ → FileAnswer
-answer d state caller (call.Mkdir path) number version = make_row d state (sid_of state caller) number version path None
-answer d state caller (call.Create path) number version = make_row d state (sid_of state caller) number version path (Some [])
-answer d state caller (call.OpenFile slot path mode) number version =
-    open_row d state (sid_of state caller) number version (slot_place caller slot) path mode
-answer d state caller (call.ReadFile slot offset most) number version =
-    read_row d state (sid_of state caller) number version (slot_place caller slot) offset most
-answer d state caller (call.WriteFile slot offset piece) number version =
-    write_row d state (sid_of state caller) number version (slot_place caller slot) offset piece
-answer d state caller (call.AppendFile slot piece) number version =
-    append_row d state (sid_of state caller) number version (slot_place caller slot) piece
-answer d state caller (call.CloseFile slot) number version = close_row state (slot_place caller slot)
-answer d state caller (call.Unlink path) number version = unlink_row d state (sid_of state caller) number version path
-answer d state caller (call.List path skip) number version = list_row d state (sid_of state caller) number version path skip
-answer d state caller (call.StatFile path) number version = stat_row d state (sid_of state caller) number version path
-answer d state caller (call.Relabel path sid) number version = relabel_row d state (sid_of state caller) number version path sid
-answer d state caller (call.Give slot client target) number version =
-    give_row d state (sid_of state client) number version (slot_place caller slot) (slot_place client target)
+answer d state caller call number version = answered (request_of d state caller number version) state call
 
 -- the slot that a call uses: read, write and append are uses, and no other call is
 abbrev pub use_of : ℕ → FileCall → Option ℕ
@@ -57,20 +63,19 @@ follows_without state at follows = maps.retain_keys follows (λ place. not (is_h
 abbrev pub follows_moved : FileState → List Step → ℕ → Follows → Follows
 follows_moved state at number follows = mapped (λ place before. if is_held_at at (maps.get state.slots place) then number else before) follows
 
--- what the slots follow after a call, which is done under a number and its version: a call that fills a slot or gives a file
--- another label sets it to the number, and a slot that is free follows nothing
+-- what the slots follow after a call of a request that got this reply: a call that fills a slot or gives a file another label
+-- sets it to the number, and a slot that is free follows nothing
+abbrev pub followed_by : Request → FileState → FileCall → FileReply → Follows → Follows
+followed_by r state (call.OpenFile slot path mode) said follows = when_done said (maps.insert follows (slot_place r.client slot) r.number) follows
+followed_by r state (call.Give slot client target) said follows = when_done said (maps.insert follows (slot_place client target) r.number) follows
+followed_by r state (call.CloseFile slot) said follows = when_done said (maps.remove follows (slot_place r.client slot)) follows
+followed_by r state (call.Unlink path) said follows = when_done said (follows_without state (walked r state path).at follows) follows
+followed_by r state (call.Relabel path sid) said follows = when_done said (follows_moved state (walked r state path).at r.number follows) follows
+followed_by r state other said follows = follows
+
+-- the same after a caller's call, which is done under a number and its version
 abbrev pub followed : Decisions → FileState → ℕ → FileCall → ℕ → ℕ → FileReply → Follows → Follows
-followed d state caller (call.OpenFile slot path mode) number version said follows =
-    when_done said (maps.insert follows (slot_place caller slot) number) follows
-followed d state caller (call.Give slot client target) number version said follows =
-    when_done said (maps.insert follows (slot_place client target) number) follows
-followed d state caller (call.CloseFile slot) number version said follows =
-    when_done said (maps.remove follows (slot_place caller slot)) follows
-followed d state caller (call.Unlink path) number version said follows =
-    when_done said (follows_without state (walked d state (sid_of state caller) number version path).at follows) follows
-followed d state caller (call.Relabel path sid) number version said follows =
-    when_done said (follows_moved state (walked d state (sid_of state caller) number version path).at number follows) follows
-followed d state caller other number version said follows = follows
+followed d state caller call number version said follows = followed_by (request_of d state caller number version) state call said follows
 
 -- the pair of a source and what stands at a path, if anything
 abbrev pub pair_on : ℕ → Option Item → Option Pair

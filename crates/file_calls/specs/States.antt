@@ -1,15 +1,13 @@
 -- The state of the plain file manager, and how its answers are put together.
-use Rattle.std.specs.Prelude.{ℕ, List, [], ◌∷◌, ◌++◌, slice_index, Option, Some, None, if◌then◌else◌}
+use Rattle.std.specs.Prelude.{ℕ, List, [], ◌∷◌, slice_index, None}
 use Rattle.std.specs.Ordering.{nat_cmp}
 use Rattle.std.specs.FinMap as maps
 use Rattle.std.specs.FinMap.{FinMap}
 use Rattle.access_vectors.specs.Table.{Permission}
 use Rattle.access_vectors.specs.Perms.{file_read, file_write, file_append}
-use Rattle.access_vectors.specs.Vectors.{has}
-use Rattle.access_vectors.specs.Decisions.{Decisions}
-use Rattle.access_vectors.specs.Asking.{question}
-use Rattle.access_vectors.specs.declared.asked.Asked.{Asked}
 use Rattle.manager_history.specs.Answers.{Answer}
+use Rattle.mode_questions.specs.Requests as requests
+use Rattle.mode_questions.specs.Requests.{Request, Asking, asking_mode}
 use Rattle.file_tree.specs.Plain.{PlainTree, steps_of}
 use Rattle.file_tree.specs.declared.step.Step.{Step}
 use Rattle.file_calls.specs.declared.opening.Node.{Node}
@@ -57,47 +55,22 @@ with_tree state tree = record { opening = state.opening; tree = tree; slots = st
 abbrev pub with_slots : FileState → FinMap nat_cmp Held → FileState
 with_slots state slots = record { opening = state.opening; tree = state.tree; slots = slots }
 
--- a reply that asks nothing more, in a state
-abbrev pub saying : FileState → FileReply → FileAnswer
-saying state said = record { reply = said; state = state; asked = [] }
-
--- a question first: where it is denied that is the reply, and nothing else is done
-abbrev pub asking : FileState → ℕ → Asked → FileAnswer → FileAnswer
-asking state number asked rest =
-    if asked.yes then record { reply = rest.reply; state = rest.state; asked = asked ∷ rest.asked }
-    else record { reply = reply.Denied asked.perm number; state = state; asked = asked ∷ [] }
-
--- these questions before, and then the reply that stopped the call, or else the rest
-abbrev pub stopped_or : FileState → List Asked → FileAnswer → Option FileReply → FileAnswer
-stopped_or state asked rest (Some said) = record { reply = said; state = state; asked = asked }
-stopped_or state asked rest None = record { reply = rest.reply; state = rest.state; asked = asked ++ rest.asked }
-
--- what comes of asking the permissions of a mode: the first that is denied, and the questions up to it
-pub record Asking : Type 0 where
-  pub denied : Option Permission
-  pub asked : List Asked
-
--- a question is asked, and the rest where it is allowed
-abbrev pub then_asking : Asked → Asking → Asking
-then_asking asked rest =
-    if asked.yes then record { denied = rest.denied; asked = asked ∷ rest.asked } else record { denied = Some asked.perm; asked = asked ∷ [] }
-
--- of these permissions those that the mode has are asked, in their order
-abbrev pub asking_mode : Decisions → ℕ → ℕ → ℕ → ℕ → List Permission → Asking
-asking_mode d version s t mode [] = record { denied = None; asked = [] }
-asking_mode d version s t mode (perm ∷ perms) =
-    if has mode perm.index then then_asking (question d version s t perm) (asking_mode d version s t mode perms)
-    else asking_mode d version s t mode perms
-
 -- the permissions of a file's mode, in the order in which they are asked
 abbrev pub mode_perms : List Permission
 mode_perms = file_read ∷ file_write ∷ file_append ∷ []
 
--- the reply of a denial, where there is one
-abbrev pub denied_with : ℕ → Option Permission → Option FileReply
-denied_with number None = None
-denied_with number (Some perm) = Some (reply.Denied perm number)
+-- what comes of asking the whole of a mode
+abbrev pub asking_whole : Request → ℕ → ℕ → Asking
+asking_whole r t mode = asking_mode r t mode mode_perms
+
+-- a reply that asks nothing more, in a state
+abbrev pub saying : FileState → FileReply → FileAnswer
+saying state said = requests.saying state said
+
+-- a question first: where it is denied that is the reply, and nothing else is done
+abbrev pub asking : Request → FileState → ℕ → Permission → FileAnswer → FileAnswer
+asking r state t perm rest = requests.asking reply.Denied r state t perm rest
 
 -- what is done where no permission of the mode was denied
-abbrev pub after_asking : FileState → ℕ → Asking → FileAnswer → FileAnswer
-after_asking state number asking rest = stopped_or state asking.asked rest (denied_with number asking.denied)
+abbrev pub after_asking : Request → FileState → Asking → FileAnswer → FileAnswer
+after_asking r state asking rest = requests.after_asking reply.Denied r state asking rest

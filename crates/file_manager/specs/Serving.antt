@@ -1,33 +1,104 @@
 -- What a row of the manager's code owes its row of the plain manager.
-use Rattle.std.specs.Prelude.{◌≡◌, List, ◌++◌, Result, Ok, Err}
-use Rattle.access_vectors.specs.declared.asked.Asked.{Asked}
+use Rattle.std.specs.Prelude.{◌≡◌, ℕ, ◌<◌, Bool, true, false, length, is_some, List, Some, bit_and, Result, Ok, Err}
+use Rattle.std.specs.FinMap as maps
 use Rattle.flask_sid.specs.declared.memory.Memory.{Memory}
-use Rattle.file_calls.specs.States.{FileState, FileAnswer}
+use Rattle.access_vectors.specs.Decisions.{Decisions}
+use Rattle.access_vectors.specs.Phases.{version_at, MayName}
+use Rattle.access_vectors.specs.Stale.{Follows, is_use_following}
+use Rattle.access_vectors.specs.declared.asker.Asker.{Ghosts}
+use Rattle.access_vectors.specs.declared.class.Class.TheVariants.{File}
+use Rattle.mode_questions.specs.Requests.{Request}
+use Rattle.mode_questions.specs.Operations.{request, IsSameOperation, HasAsked, HasUsed}
+use Rattle.mode_questions.specs.declared.operation.Operation.{Operation}
+use Rattle.retained_rights.specs.declared.grant.Usable.{Usable}
+use Rattle.file_tree.specs.Plain.{plain, item_of}
+use Rattle.file_tree.specs.declared.node.Node.{Node}
+use Rattle.file_calls.specs.Plain.{answered, followed_by, use_of, denial_of, when_done}
+use Rattle.file_calls.specs.States.{FileAnswer, sid_of}
+use Rattle.file_calls.specs.declared.call.FileCall.{FileCall}
 use Rattle.file_calls.specs.declared.call.FileReply.{FileReply}
-use Rattle.file_store.specs.Stores.{Shown, state_of}
+use Rattle.file_calls.specs.declared.call.FileReply.TheVariants as reply
+use Rattle.file_store.specs.Stores.{Shown, Safe, state_of, follows}
+use Rattle.file_store.specs.Uses.{IsUse}
 
--- a served call replies, changes the state and asks as the plain answer says, with two equal replies; want of memory
--- leaves all as it was
-abbrev pub Serves : Result (FileReply × FileReply) Memory → Shown → Shown → List Asked → FileAnswer → Type 0
-Serves (Ok replies) old new asked answer =
-    (replies.0 ≡ answer.reply) × (replies.1 ≡ answer.reply) × (state_of new ≡ answer.state) × (asked ≡ answer.asked)
-Serves (Err memory) old new asked answer = new ≡ old
+-- files may serve a request: they keep their promise under its decider, its client is one of theirs, its subject is the
+-- client's identifier, and its number may be named, with its version
+pub record MayServe (shown : Shown) (r : Request) : Type 0 where
+  pub safe : Safe r.decisions shown
+  pub client : r.client < length shown.opening.clients
+  pub subject : sid_of (state_of shown) r.client ≡ r.subject
+  pub named : MayName shown.rights.phase r.number
+  pub version : r.version ≡ version_at shown.rights.phase r.number
 
--- a call that changes nothing replies and asks as the plain answer says, with two equal replies, and the plain answer
--- leaves the state as it is
-abbrev pub Says : Result (FileReply × FileReply) Memory → FileState → List Asked → FileAnswer → Type 0
-Says (Ok replies) state asked answer =
-    (replies.0 ≡ answer.reply) × (replies.1 ≡ answer.reply) × (state ≡ answer.state) × (asked ≡ answer.asked)
-Says (Err memory) state asked answer = Unit {0}
+-- files keep their promise under a decider, what they were opened with, and where the change of policy stands
+pub record Keeps (d : Decisions) (old new : Shown) : Type 0 where
+  pub safe : Safe d new
+  pub opening : new.opening ≡ old.opening
+  pub phase : new.rights.phase ≡ old.rights.phase
 
--- the rest of a call is served, with its questions behind those before
-abbrev pub ServesOn : Result (FileReply × FileReply) Memory → Shown → Shown → List Asked → List Asked → FileAnswer → Type 0
-ServesOn (Ok replies) old new before asked answer =
-    (replies.0 ≡ answer.reply) × (replies.1 ≡ answer.reply) × (state_of new ≡ answer.state) × (asked ≡ before ++ answer.asked)
-ServesOn (Err memory) old new before asked answer = new ≡ old
+-- a slot of a place follows the number of a request
+abbrev pub is_following : Shown → ℕ → Request → Bool
+is_following shown place r = is_use_following (Some place) (follows shown) r.number
 
--- the rest of a call that changes nothing, with its questions behind those before
-abbrev pub SaysOn : Result (FileReply × FileReply) Memory → FileState → List Asked → List Asked → FileAnswer → Type 0
-SaysOn (Ok replies) state before asked answer =
-    (replies.0 ≡ answer.reply) × (replies.1 ≡ answer.reply) × (state ≡ answer.state) × (asked ≡ before ++ answer.asked)
-SaysOn (Err memory) state before asked answer = Unit {0}
+module _ {A : Type 0} {g : Ghosts A} where
+  -- a row that changes nothing replies and asks as the plain row says, which leaves the state as it is
+  abbrev pub Says : Result FileReply Memory → Shown → Operation A g → Operation A g → FileAnswer → Type 0
+  Says (Ok said) shown before after answer =
+      (said ≡ answer.reply) × (state_of shown ≡ answer.state) × HasAsked before after answer.asked
+  Says (Err memory) shown before after answer = IsSameOperation before after
+
+  -- the same through the slot of a place
+  abbrev pub SaysThrough : ℕ → Result FileReply Memory → Shown → Operation A g → Operation A g → FileAnswer → Type 0
+  SaysThrough place (Ok said) shown before after answer =
+      (said ≡ answer.reply) × (state_of shown ≡ answer.state)
+      × HasUsed (is_following shown place (request before)) false before after answer.asked
+  SaysThrough place (Err memory) shown before after answer = IsSameOperation before after
+
+  -- a row replies, changes the state and asks as the plain row says, and what the slots follow stays; want of memory leaves
+  -- the files as they were
+  abbrev pub Serves : Result FileReply Memory → Shown → Shown → Operation A g → Operation A g → FileAnswer → Type 0
+  Serves (Ok said) old new before after answer =
+      (said ≡ answer.reply) × (state_of new ≡ answer.state) × (follows new ≡ follows old)
+      × Keeps (request before).decisions old new × HasAsked before after answer.asked
+  Serves (Err memory) old new before after answer = (new ≡ old) × IsSameOperation before after
+
+  -- the same through the slot of a place
+  abbrev pub ServesThrough : ℕ → Result FileReply Memory → Shown → Shown → Operation A g → Operation A g → FileAnswer → Type 0
+  ServesThrough place (Ok said) old new before after answer =
+      (said ≡ answer.reply) × (state_of new ≡ answer.state) × (follows new ≡ follows old)
+      × Keeps (request before).decisions old new
+      × HasUsed (is_following old place (request before)) false before after answer.asked
+  ServesThrough place (Err memory) old new before after answer = (new ≡ old) × IsSameOperation before after
+
+  -- the same of a row that, where it is done, lets the slots follow this
+  abbrev pub ServesSlots : Follows → Result FileReply Memory → Shown → Shown → Operation A g → Operation A g → FileAnswer → Type 0
+  ServesSlots changed (Ok said) old new before after answer =
+      (said ≡ answer.reply) × (state_of new ≡ answer.state) × (follows new ≡ when_done said changed (follows old))
+      × Keeps (request before).decisions old new × HasAsked before after answer.asked
+  ServesSlots changed (Err memory) old new before after answer = (new ≡ old) × IsSameOperation before after
+
+  -- the same of any call
+  abbrev pub ServesCall : FileCall → Result FileReply Memory → Shown → Shown → Operation A g → Operation A g → Type 0
+  ServesCall call (Ok said) old new before after =
+      let r = request before in
+      let answer = answered r (state_of old) call in
+      (said ≡ answer.reply) × (state_of new ≡ answer.state) × (follows new ≡ followed_by r (state_of old) call said (follows old))
+      × Keeps r.decisions old new
+      × HasUsed (is_use_following (use_of r.client call) (follows old) r.number) (is_some (denial_of said)) before after answer.asked
+  ServesCall call (Err memory) old new before after = (new ≡ old) × IsSameOperation before after
+
+-- for a request, the use of a slot of its client, and the bytes of the slot's file; where the slot follows the request's
+-- number, its bits are those of its mode that the policy allows
+pub record IsHeld (r : Request) (shown : Shown) (slot : ℕ) (usable : Usable) (bytes : List ℕ) : Type 0 where
+  pub usage : IsUse r.decisions shown r.client slot usable
+  pub bits : usable.number ≡ r.number → usable.bits ≡ bit_and usable.mode (r.decisions.vector r.version r.subject usable.t File)
+  pub node : Node
+  pub at : maps.get shown.nodes usable.object ≡ Some node
+  pub bytes_are : node.bytes ≡ Some bytes
+  pub file : maps.get (plain shown.nodes) node.path ≡ Some (item_of node)
+
+-- a reply that holds neither bytes nor names
+abbrev pub is_short : FileReply → Bool
+is_short (reply.Bytes bytes) = false
+is_short (reply.Names names) = false
+is_short other = true

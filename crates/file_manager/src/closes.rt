@@ -1,29 +1,35 @@
-ghost use Rattle.std.specs.Prelude.{◌≡◌, []};
-ghost use Rattle.std.specs.FinMap as maps;
-ghost use Rattle.access_vectors.specs.Decisions.{Decisions};
-ghost use Rattle.access_vectors.specs.Stale.{slot_place};
-ghost use Rattle.file_calls.specs.Plain.{when_done};
-ghost use Rattle.file_calls.specs.SlotCalls;
-ghost use Rattle.file_store.specs.Stores.{Safe, state_of, follows};
+//! Freeing a slot.
 
+ghost use Rattle.std.specs.Prelude.{Ok};
+ghost use Rattle.std.specs.FinMap as maps;
+ghost use Rattle.access_vectors.specs.Stale.{slot_place};
+ghost use Rattle.mode_questions.specs.Operations.{request};
+ghost use Rattle.file_calls.specs.SlotCalls.{close_row};
+ghost use Rattle.file_store.specs.Stores.{state_of, follows};
+ghost use Rattle.file_manager.specs.Serving.{MayServe, ServesSlots};
+
+use crate::replies::both;
+use access_vectors::Asker;
 use file_calls::FileReply;
 use file_store::Files;
+use flask_sid::Memory;
+use mode_questions::{Doubled, Operation};
 use retained_rights::Callback;
 
 /// Frees a slot of the caller.
-pub fn close<F: Callback>(files: &mut Files<F>, caller: u8, slot: u8) -> (FileReply, FileReply)
-    ensures history { (d : Decisions) → Safe d files.old → result.0 ≡ (SlotCalls.close_row (state_of files.old) (slot_place caller slot)).reply }
-    ensures caller { (d : Decisions) → Safe d files.old → result.1 ≡ (SlotCalls.close_row (state_of files.old) (slot_place caller slot)).reply }
-    ensures state { (d : Decisions) → Safe d files.old → state_of files.new ≡ (SlotCalls.close_row (state_of files.old) (slot_place caller slot)).state }
-    ensures asked { (d : Decisions) → Safe d files.old → (SlotCalls.close_row (state_of files.old) (slot_place caller slot)).asked ≡ [] }
-    ensures follows { follows files.new ≡ when_done result.0 (maps.remove (follows files.old) (slot_place caller slot)) (follows files.old) }
-    ensures safe { (d : Decisions) → Safe d files.old → Safe d files.new }
-    ensures opening { files.new.opening ≡ files.old.opening }
-    ensures phase { files.new.rights.phase ≡ files.old.rights.phase }
+pub fn close<F: Callback, A: Asker>(
+    files: &mut Files<F>,
+    operation: &Operation<A>,
+    slot: u8,
+) -> Result<Doubled<FileReply>, Memory>
+    requires { MayServe files.old (request operation.now) }
+    ensures { let place = slot_place operation.now.caller.now.client slot in
+        ServesSlots (maps.remove (follows files.old) place) result files.old files.new operation.now operation.now (close_row (state_of files.old) place) }
 {
-    let Some(_usable) = files.slot_use(caller, slot) else {
-        return (FileReply::BadSlot, FileReply::BadSlot);
+    let client = operation.caller.client;
+    let Some(_usable) = files.slot_use(client, slot) else {
+        return Ok(both(FileReply::BadSlot));
     };
-    files.free(caller, slot);
-    (FileReply::Done, FileReply::Done)
+    files.free(client, slot);
+    Ok(both(FileReply::Done))
 }

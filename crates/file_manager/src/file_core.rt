@@ -1,3 +1,5 @@
+//! The file manager as a core of histories.
+
 ghost use Rattle.std.specs.Prelude.{◌≡◌, ◌<◌, [], IfOk};
 ghost use Rattle.std.specs.FinMap as maps;
 ghost use Rattle.access_vectors.specs.Decisions.{Decisions};
@@ -14,6 +16,7 @@ use file_calls::{FileCall, FileOpening, FileReply};
 use file_store::Files;
 use flask_sid::Memory;
 use manager_history::Core;
+use mode_questions::{Caller, Operation};
 use retained_rights::Callback;
 use std::alloc::Global;
 use std::marker::Model;
@@ -106,7 +109,15 @@ impl<F: Callback> Core for FileCore<F> {
         asker: &mut A,
         asked: &mut Questions,
     ) -> Result<(FileReply, FileReply), Memory> {
-        serve(&mut self.files, alloc, caller, call, number, asker, asked)
+        let caller = Caller::new(alloc, caller, self.files.sid(caller), number, asker);
+        let mut operation = Operation::new(&caller, asker, asked);
+        let served = serve(&mut self.files, &mut operation, call);
+        let Operation {
+            caller: _,
+            asker: _,
+            asked: _,
+        } = operation;
+        Ok(served?.pair())
     }
 
     fn start<D: Decider>(

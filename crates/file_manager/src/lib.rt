@@ -5,7 +5,6 @@
 //! through a slot that follows the call's policy number looks at them and asks nobody.
 #![tactic(auto)]
 
-mod asking;
 mod closes;
 mod file_core;
 mod gives;
@@ -16,9 +15,9 @@ mod reads;
 mod relabels;
 mod replies;
 mod serving;
+mod slots;
 mod stats;
 mod unlinks;
-mod uses;
 mod walks;
 mod writes;
 

@@ -1,115 +1,84 @@
-ghost use Rattle.std.specs.Prelude.{◌≡◌, ◌<◌, true, [], length, is_some, IsTrue, IfOk, OnOk, option_map};
-ghost use Rattle.std.specs.FinMap as maps;
-ghost use Rattle.access_vectors.specs.Asking.{with_keys_of};
-ghost use Rattle.access_vectors.specs.Phases.{version_at, MayName};
-ghost use Rattle.file_tree.specs.Nodes.{path_in};
-ghost use Rattle.file_calls.specs.States.{sid_of};
-ghost use Rattle.access_vectors.specs.Stale.{slot_place};
-ghost use Rattle.file_tree.specs.Plain.{item_of};
-ghost use Rattle.file_calls.specs.Plain.{when_done};
-ghost use Rattle.file_calls.specs.SlotCalls;
-ghost use Rattle.file_store.specs.Stores.{Safe, state_of, follows};
-ghost use Rattle.file_store.specs.Uses.{IsFree};
-ghost use Rattle.file_manager.specs.Serving.{Serves, ServesOn};
+//! Opening a file into a slot.
 
-use crate::asking::{MODE_PERMS, ask_mode};
-use crate::replies::{denied, stopped};
+ghost use Rattle.std.specs.Prelude.{◌≡◌, true, is_some, option_map};
+ghost use Rattle.std.specs.FinMap as maps;
+ghost use Rattle.access_vectors.specs.Stale.{slot_place};
+ghost use Rattle.mode_questions.specs.Operations.{request};
+ghost use Rattle.file_tree.specs.Nodes.{path_in};
+ghost use Rattle.file_tree.specs.Plain.{item_of};
+ghost use Rattle.file_calls.specs.SlotCalls.{open_row, opened_at};
+ghost use Rattle.file_store.specs.Stores.{state_of, follows};
+ghost use Rattle.file_store.specs.Uses.{IsFree};
+ghost use Rattle.file_manager.specs.Serving.{MayServe, ServesSlots};
+
+use crate::replies::{both, denied, stopped};
 use crate::walks::{Walked, walk};
-use access_vectors::{Asker, Questions, Vector};
+use access_vectors::perms::{FILE_APPEND, FILE_READ, FILE_WRITE};
+use access_vectors::{Asker, Perm, Vector};
 use file_calls::FileReply;
 use file_store::{Files, Filling};
-use flask_sid::{Memory, Piece, Sid};
+use flask_sid::{Memory, Piece};
+use mode_questions::{Doubled, Operation};
 use retained_rights::Callback;
 
+/// The permissions of a file's mode, in the order in which they are asked.
+pub const MODE_PERMS: [Perm; 3] = [FILE_READ, FILE_WRITE, FILE_APPEND];
+
 /// Opens the file of a path into a free slot of the caller.
-#[tactic(auto, using(crate::proofs::WalkLemmas::keys_more))]
 pub fn open<F: Callback, A: Asker>(
     files: &mut Files<F>,
-    caller: u8,
+    operation: &mut Operation<A>,
     slot: u8,
     path: &[Piece],
     mode: Vector,
-    number: u32,
-    asker: &mut A,
-    asked: &mut Questions,
-) -> Result<(FileReply, FileReply), Memory>
-    requires safe { Safe (A.decides asker.old) files.old }
-    requires caller { caller < length files.old.opening.clients }
-    requires named { MayName files.old.rights.phase number }
-    requires version { A.version asker.old ≡ version_at files.old.rights.phase number }
-    requires none { asked.old ≡ [] }
-    ensures serves { Serves result files.old files.new asked.new
-        (SlotCalls.open_row (A.decides asker.old) (state_of files.old) (sid_of (state_of files.old) caller) number (A.version asker.old) (slot_place caller slot) path.now mode) }
-    ensures follows { IfOk result (λ replies. follows files.new
-        ≡ when_done replies.0 (maps.insert (follows files.old) (slot_place caller slot) number) (follows files.old)) }
-    ensures keys { OnOk result (A.keys asker.new ≡ with_keys_of (A.keys asker.old) asked.new) }
-    ensures safe { Safe (A.decides asker.old) files.new }
-    ensures opening { files.new.opening ≡ files.old.opening }
-    ensures phase { files.new.rights.phase ≡ files.old.rights.phase }
-    ensures same { A.same asker.old asker.new }
-    ensures decides { A.decides asker.new ≡ A.decides asker.old }
-    ensures at_version { A.version asker.new ≡ A.version asker.old }
+) -> Result<Doubled<FileReply>, Memory>
+    requires { MayServe files.old (request operation.old) }
+    ensures { let r = request operation.old in let place = slot_place r.client slot in
+        ServesSlots (maps.insert (follows files.old) place r.number) result files.old files.new operation.old operation.new
+        (open_row r (state_of files.old) place path.now mode) }
 {
-    if let Some(_usable) = files.slot_use(caller, slot) {
-        return Ok((FileReply::SlotUsed, FileReply::SlotUsed));
+    if let Some(_usable) = files.slot_use(operation.caller.client, slot) {
+        return Ok(both(FileReply::SlotUsed));
     }
-    let s = files.sid(caller);
-    match walk(files, asker, asked, s, path, number)? {
+    match walk(files, operation, path)? {
         Walked::Stopped(stop) => Ok(stopped(stop)),
-        Walked::Missing => Ok((FileReply::NotFound, FileReply::NotFound)),
-        Walked::Found(object) => open_node(
-            files, caller, slot, s, object, mode, number, asker, asked,
-        ),
+        Walked::Missing => Ok(both(FileReply::NotFound)),
+        Walked::Found(object) => open_node(files, operation, slot, object, mode),
     }
 }
 
-/// Opens a numbered node into a free slot of a client.
+/// Opens a numbered node into a free slot of the caller.
 fn open_node<F: Callback, A: Asker>(
     files: &mut Files<F>,
-    client: u8,
+    operation: &mut Operation<A>,
     slot: u8,
-    s: Sid,
     object: u32,
     mode: Vector,
-    number: u32,
-    asker: &mut A,
-    asked: &mut Questions,
-) -> Result<(FileReply, FileReply), Memory>
-    requires safe { Safe (A.decides asker.old) files.old }
-    requires source { IsTrue ((A.decides asker.old).known s) }
-    requires named { MayName files.old.rights.phase number }
-    requires version { A.version asker.old ≡ version_at files.old.rights.phase number }
+) -> Result<Doubled<FileReply>, Memory>
+    requires may { MayServe files.old (request operation.old) }
     requires there { is_some (maps.get files.old.nodes object) ≡ true }
-    requires client { sid_of (state_of files.old) client ≡ s }
-    requires free { IsFree files.old client slot }
-    ensures serves { ServesOn result files.old files.new asked.old asked.new
-        (SlotCalls.opened_at (A.decides asker.old) (state_of files.old) s number (A.version asker.old) (slot_place client slot) mode (path_in files.old.nodes object) (option_map item_of (maps.get files.old.nodes object))) }
-    ensures follows { IfOk result (λ replies. follows files.new
-        ≡ when_done replies.0 (maps.insert (follows files.old) (slot_place client slot) number) (follows files.old)) }
-    ensures keys { OnOk result (A.keys asker.new
-        ≡ with_keys_of (A.keys asker.old) (SlotCalls.opened_at (A.decides asker.old) (state_of files.old) s number (A.version asker.old) (slot_place client slot) mode (path_in files.old.nodes object) (option_map item_of (maps.get files.old.nodes object))).asked) }
-    ensures safe { Safe (A.decides asker.old) files.new }
-    ensures opening { files.new.opening ≡ files.old.opening }
-    ensures phase { files.new.rights.phase ≡ files.old.rights.phase }
-    ensures same { A.same asker.old asker.new }
-    ensures decides { A.decides asker.new ≡ A.decides asker.old }
-    ensures at_version { A.version asker.new ≡ A.version asker.old }
+    requires free { IsFree files.old (request operation.old).client slot }
+    ensures { let r = request operation.old in let place = slot_place r.client slot in
+        ServesSlots (maps.insert (follows files.old) place r.number) result files.old files.new operation.old operation.new
+        (opened_at r (state_of files.old) place mode (path_in files.old.nodes object) (option_map item_of (maps.get files.old.nodes object))) }
 {
     let node = files.node(object);
-    let label = node.label;
+    let t = node.label;
     if node.bytes.is_none() {
-        return Ok((FileReply::IsDir, FileReply::IsDir));
+        return Ok(both(FileReply::IsDir));
     }
-    if let Some(perm) = ask_mode(asker, asked, s, label, mode, &MODE_PERMS)? {
-        return Ok(denied(perm, number));
+    let caller = operation.caller;
+    let s = caller.subject;
+    if let Some(perm) = operation.ask_mode(s, t, mode, &MODE_PERMS)? {
+        return Ok(denied(perm, caller.number));
     }
     let filling = Filling {
         object,
         s,
-        t: label,
+        t,
         mode,
-        number,
+        number: caller.number,
     };
-    files.fill(client, slot, filling, asker)?;
-    Ok((FileReply::Done, FileReply::Done))
+    files.fill(caller.client, slot, filling, operation.asker)?;
+    Ok(both(FileReply::Done))
 }

@@ -1,103 +1,73 @@
-ghost use Rattle.std.specs.Prelude.{◌≡◌, ◌<◌, true, [], length, is_some, IsTrue, IfOk, OnOk, option_map};
+//! Giving what stands at a path another label.
+
+ghost use Rattle.std.specs.Prelude.{◌≡◌, true, is_some, option_map, IsTrue};
 ghost use Rattle.std.specs.FinMap as maps;
-ghost use Rattle.access_vectors.specs.Asking.{with_keys_of};
-ghost use Rattle.access_vectors.specs.Phases.{version_at, MayName};
+ghost use Rattle.mode_questions.specs.Operations.{request};
 ghost use Rattle.file_tree.specs.Nodes.{path_in};
-ghost use Rattle.file_calls.specs.States.{sid_of};
 ghost use Rattle.file_tree.specs.Plain.{item_of};
 ghost use Rattle.file_calls.specs.PathCalls;
-ghost use Rattle.file_calls.specs.Plain.{follows_moved, when_done};
+ghost use Rattle.file_calls.specs.Plain.{follows_moved};
 ghost use Rattle.file_calls.specs.Walks.{walked};
-ghost use Rattle.file_store.specs.Stores.{Safe, state_of, follows};
-ghost use Rattle.file_manager.specs.Serving.{Serves, ServesOn};
+ghost use Rattle.file_store.specs.Stores.{state_of, follows};
+ghost use Rattle.file_manager.specs.Serving.{MayServe, ServesSlots};
 
-use crate::replies::{denied, stopped};
+use crate::replies::{both, denied, stopped};
 use crate::walks::{Walked, walk};
 use access_vectors::perms::{DIR_RELABELFROM, DIR_RELABELTO, FILE_RELABELFROM, FILE_RELABELTO};
-use access_vectors::{Asker, Perm, Questions, ask};
+use access_vectors::{Asker, Perm};
 use file_calls::FileReply;
 use file_store::Files;
 use flask_sid::{Memory, Piece, Sid};
+use mode_questions::{Doubled, Operation};
 use retained_rights::Callback;
 
 /// Gives what stands at a path another label.
-#[tactic(auto, using(crate::proofs::WalkLemmas::keys_more))]
 pub fn relabel<F: Callback, A: Asker>(
     files: &mut Files<F>,
-    caller: u8,
+    operation: &mut Operation<A>,
     path: &[Piece],
     label: Sid,
-    number: u32,
-    asker: &mut A,
-    asked: &mut Questions,
-) -> Result<(FileReply, FileReply), Memory>
-    requires safe { Safe (A.decides asker.old) files.old }
-    requires caller { caller < length files.old.opening.clients }
-    requires named { MayName files.old.rights.phase number }
-    requires version { A.version asker.old ≡ version_at files.old.rights.phase number }
-    requires none { asked.old ≡ [] }
-    requires known { IsTrue ((A.decides asker.old).known label) }
-    ensures serves { Serves result files.old files.new asked.new
-        (PathCalls.relabel_row (A.decides asker.old) (state_of files.old) (sid_of (state_of files.old) caller) number (A.version asker.old) path.now label) }
-    ensures follows { IfOk result (λ replies. follows files.new
-        ≡ when_done replies.0 (follows_moved (state_of files.old) (walked (A.decides asker.old) (state_of files.old) (sid_of (state_of files.old) caller) number (A.version asker.old) path.now).at number (follows files.old)) (follows files.old)) }
-    ensures keys { OnOk result (A.keys asker.new ≡ with_keys_of (A.keys asker.old) asked.new) }
-    ensures safe { Safe (A.decides asker.old) files.new }
-    ensures opening { files.new.opening ≡ files.old.opening }
-    ensures phase { files.new.rights.phase ≡ files.old.rights.phase }
-    ensures same { A.same asker.old asker.new }
-    ensures decides { A.decides asker.new ≡ A.decides asker.old }
-    ensures at_version { A.version asker.new ≡ A.version asker.old }
+) -> Result<Doubled<FileReply>, Memory>
+    requires may { MayServe files.old (request operation.old) }
+    requires known { IsTrue ((request operation.old).decisions.known label) }
+    ensures { let r = request operation.old in let state = state_of files.old in
+        ServesSlots (follows_moved state (walked r state path.now).at r.number (follows files.old)) result files.old files.new operation.old operation.new
+        (PathCalls.relabel_row r state path.now label) }
 {
-    let s = files.sid(caller);
-    match walk(files, asker, asked, s, path, number)? {
+    match walk(files, operation, path)? {
         Walked::Stopped(stop) => Ok(stopped(stop)),
-        Walked::Missing => Ok((FileReply::NotFound, FileReply::NotFound)),
-        Walked::Found(object) => relabel_node(files, s, object, label, number, asker, asked),
+        Walked::Missing => Ok(both(FileReply::NotFound)),
+        Walked::Found(object) => relabel_node(files, operation, object, label),
     }
 }
 
 /// Gives a numbered node another label.
 fn relabel_node<F: Callback, A: Asker>(
     files: &mut Files<F>,
-    s: Sid,
+    operation: &mut Operation<A>,
     object: u32,
     label: Sid,
-    number: u32,
-    asker: &mut A,
-    asked: &mut Questions,
-) -> Result<(FileReply, FileReply), Memory>
-    requires safe { Safe (A.decides asker.old) files.old }
-    requires source { IsTrue ((A.decides asker.old).known s) }
-    requires named { MayName files.old.rights.phase number }
-    requires version { A.version asker.old ≡ version_at files.old.rights.phase number }
+) -> Result<Doubled<FileReply>, Memory>
+    requires may { MayServe files.old (request operation.old) }
     requires there { is_some (maps.get files.old.nodes object) ≡ true }
-    requires known { IsTrue ((A.decides asker.old).known label) }
-    ensures serves { ServesOn result files.old files.new asked.old asked.new
-        (PathCalls.relabelled_at (A.decides asker.old) (state_of files.old) s number (A.version asker.old) label (path_in files.old.nodes object) (option_map item_of (maps.get files.old.nodes object))) }
-    ensures follows { IfOk result (λ replies. follows files.new
-        ≡ when_done replies.0 (follows_moved (state_of files.old) (path_in files.old.nodes object) number (follows files.old)) (follows files.old)) }
-    ensures keys { OnOk result (A.keys asker.new
-        ≡ with_keys_of (A.keys asker.old) (PathCalls.relabelled_at (A.decides asker.old) (state_of files.old) s number (A.version asker.old) label (path_in files.old.nodes object) (option_map item_of (maps.get files.old.nodes object))).asked) }
-    ensures safe { Safe (A.decides asker.old) files.new }
-    ensures opening { files.new.opening ≡ files.old.opening }
-    ensures phase { files.new.rights.phase ≡ files.old.rights.phase }
-    ensures same { A.same asker.old asker.new }
-    ensures decides { A.decides asker.new ≡ A.decides asker.old }
-    ensures at_version { A.version asker.new ≡ A.version asker.old }
+    requires known { IsTrue ((request operation.old).decisions.known label) }
+    ensures { let r = request operation.old in let state = state_of files.old in let at = path_in files.old.nodes object in
+        ServesSlots (follows_moved state at r.number (follows files.old)) result files.old files.new operation.old operation.new
+        (PathCalls.relabelled_at r state label at (option_map item_of (maps.get files.old.nodes object))) }
 {
+    let number = operation.caller.number;
     let node = files.node(object);
     let before = node.label;
     let from = relabelfrom_perm(&node.bytes);
     let to = relabelto_perm(&node.bytes);
-    if !ask(asker, asked, s, before, from)? {
+    if !operation.ask(before, from)? {
         return Ok(denied(from, number));
     }
-    if !ask(asker, asked, s, label, to)? {
+    if !operation.ask(label, to)? {
         return Ok(denied(to, number));
     }
-    files.relabel(object, label, number, asker)?;
-    Ok((FileReply::Done, FileReply::Done))
+    files.relabel(object, label, number, operation.asker)?;
+    Ok(both(FileReply::Done))
 }
 
 /// The permission to take its label from what holds this: bytes, or nothing in a directory.

@@ -1,1 +1,4 @@
 pub mod Judging
+pub mod Bits
+pub mod Judged
+pub mod Asks

@@ -5,7 +5,14 @@
 #![tactic(auto)]
 
 mod asking;
+mod doubled;
+mod modes;
+mod operation;
+mod slot_uses;
 mod uses;
 
 pub use asking::ask_mode;
+pub use doubled::Doubled;
+pub use operation::{Caller, Operation};
+pub use slot_uses::SlotUse;
 pub use uses::{Use, ask_use};

@@ -1,5 +1,5 @@
 use Rattle.std.proofs.Common.{length}
-use Rattle.file_manager.proofs.asking.+ask_mode.Given as goal
+use Rattle.mode_questions.proofs.operation.Operation.+ask_mode.Given as goal
 
 abbrev pub decreases-ask_mode : goal.decreases-ask_mode
 decreases-ask_mode g l = length l.perms.now
