@@ -6,9 +6,9 @@ use Rattle.access_vectors.specs.Decisions.{Decisions}
 use Rattle.access_vectors.specs.Phases.{number_of, noticed, AreVersions}
 use Rattle.access_vectors.specs.declared.phase.Phase.{Phase}
 use Rattle.access_vectors.specs.declared.phase.Phase.TheVariants.{Settled, Pending}
-use Rattle.manager_history.specs.Kept.{notice_fault}
-use Rattle.manager_history.specs.declared.answers.NotifyFault.{NotifyFault}
-use Rattle.manager_history.specs.declared.answers.NotifyFault.TheVariants as refusing
+use Rattle.access_vectors.specs.Notices.{notice_fault}
+use Rattle.access_vectors.specs.declared.change.NotifyFault.{NotifyFault}
+use Rattle.access_vectors.specs.declared.change.NotifyFault.TheVariants as refusing
 use Rattle.managed.specs.Seen.{Seen, IsNotified}
 use Rattle.managed.specs.declared.managed.Event.{Event}
 use Rattle.security_server.specs.Numbering.{Kept, is_in}

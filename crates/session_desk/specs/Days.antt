@@ -5,11 +5,12 @@ use Rattle.access_vectors.specs.Decisions.{Decisions}
 use Rattle.access_vectors.specs.Phases.{number_of, is_pending}
 use Rattle.access_vectors.specs.declared.class.Class.TheVariants as class
 use Rattle.access_vectors.specs.declared.phase.Phase.{Phase}
-use Rattle.manager_history.specs.Kept.{notice_fault, ack_answer, is_done}
+use Rattle.access_vectors.specs.Notices.{notice_fault}
+use Rattle.manager_history.specs.Kept.{ack_answer, is_done}
 use Rattle.manager_history.specs.declared.answers.Ack.{Ack}
 use Rattle.manager_history.specs.declared.answers.Ack.TheVariants as acks
-use Rattle.manager_history.specs.declared.answers.NotifyFault.{NotifyFault}
-use Rattle.manager_history.specs.declared.answers.NotifyFault.TheVariants as faults
+use Rattle.access_vectors.specs.declared.change.NotifyFault.{NotifyFault}
+use Rattle.access_vectors.specs.declared.change.NotifyFault.TheVariants as faults
 use Rattle.managed.specs.Posts as posts
 use Rattle.managed.specs.Posts.{Post}
 use Rattle.file_calls.specs.Plain as file

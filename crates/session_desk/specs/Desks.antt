@@ -11,8 +11,8 @@ use Rattle.access_vectors.specs.contracts.asked.Asked as asked_type
 use Rattle.access_vectors.specs.contracts.phase.Phase as phase_type
 use Rattle.access_vectors.specs.declared.asked.Asked.{Asked}
 use Rattle.access_vectors.specs.declared.phase.Phase.{Phase}
-use Rattle.manager_history.specs.declared.answers.NotifyFault.{NotifyFault}
-use Rattle.manager_history.specs.declared.answers.NotifyFault.TheVariants as faults
+use Rattle.access_vectors.specs.declared.change.NotifyFault.{NotifyFault}
+use Rattle.access_vectors.specs.declared.change.NotifyFault.TheVariants as faults
 use Rattle.managed.specs.Posts.{Post}
 use Rattle.file_calls.specs.Openings as file_openings
 use Rattle.file_tree.specs.Plain.{PlainTree, Item}
