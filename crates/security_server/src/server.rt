@@ -1,6 +1,7 @@
 //! The server: a decider, the policy numbers, and the receipts for the number that is proposed.
 
-ghost use Rattle.std.specs.Prelude.{◌≡◌, ◌<◌, ◌≤◌, IsTrue, IfErr, IfOk, OnErr, OnOk, None, Some};
+ghost use Rattle.std.specs.Prelude.{◌≡◌, ◌<◌, ◌≤◌, false, IsTrue, IfErr, IfOk, OnErr, OnOk, None, Some};
+ghost use Rattle.access_vectors.specs.Phases.{is_pending};
 ghost use Rattle.security_server.specs.Numbering;
 
 use crate::answers::ReceiptFault;
@@ -186,9 +187,10 @@ impl<'d, D: Decider> Server<'d, D> {
         }
     }
 
-    /// Whether the receipt of a manager for the pending number is in.
+    /// Whether the receipt of a manager for the pending number is in. None is in where none is pending.
     pub fn received(&self, manager: u8) -> bool
-        ensures { result ≡ Numbering.is_in self.now.receipts manager }
+        ensures receipt { result ≡ Numbering.is_in self.now.receipts manager }
+        ensures none { is_pending self.now.phase ≡ false → result ≡ false }
     {
         self.receipts
             .as_slice()
