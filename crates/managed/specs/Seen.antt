@@ -65,6 +65,12 @@ pub record IsSame (old new : Seen) : Type 0 where
   pub most : new.most ≡ old.most
   pub versions : new.versions ≡ old.versions
 
+-- what clients do at a manager: callers' operations at most
+pub record IsServed (old new : Seen) : Type 0 where
+  pub same : IsSame old new
+  pub phase : new.phase ≡ old.phase
+  pub history : IsGrown false old.history new.history []
+
 -- a call that tried nothing
 pub record IsUntried (old new : Seen) : Type 0 where
   pub tries : new.tries ≡ old.tries
