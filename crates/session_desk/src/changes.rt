@@ -73,9 +73,9 @@ impl<'d, D: Decider> Desk<'d, D> {
         if self.is_changing() {
             return Err(NotifyFault::Pending(self.files.phase().number()));
         }
-        let number = self.files.notice(alloc, ver)?;
-        self.processes.notice(alloc, ver)?;
-        self.ports.notice(alloc, ver)?;
+        let number = self.files.notify(alloc, ver)?;
+        self.processes.notify(alloc, ver)?;
+        self.ports.notify(alloc, ver)?;
         Ok(number)
     }
 
@@ -90,9 +90,9 @@ impl<'d, D: Decider> Desk<'d, D> {
     {
         let k = u64::from(k);
         Left {
-            files: self.files.revise(k),
-            processes: self.processes.revise(k),
-            ports: self.ports.revise(k),
+            files: self.files.update(k),
+            processes: self.processes.update(k),
+            ports: self.ports.update(k),
         }
     }
 
@@ -116,9 +116,9 @@ impl<'d, D: Decider> Desk<'d, D> {
         let acks = Acks {
             changing,
             number,
-            files: self.files.settle(),
-            processes: self.processes.settle(),
-            ports: self.ports.settle(),
+            files: self.files.acknowledge(),
+            processes: self.processes.acknowledge(),
+            ports: self.ports.acknowledge(),
         };
         self.changes = counted(self.changes, acks.is_complete());
         acks

@@ -4,11 +4,15 @@
 //! three managers, which is complete only where each of them has acknowledged it.
 #![tactic(auto)]
 
+mod acting;
 mod acts;
 mod changes;
 mod desk;
+mod one_manager;
 mod opening;
 
+pub use acting::{Act, Call, ClientAct, Reply};
 pub use changes::{Acks, Left};
 pub use desk::{Acted, Desk};
+pub use one_manager::OneManager;
 pub use opening::Openings;
