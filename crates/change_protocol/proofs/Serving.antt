@@ -8,20 +8,8 @@ use Rattle.security_server.specs.Numbering.{Kept}
 use Rattle.change_protocol.specs.Changes.{AreBoth, IsPlaced, IsLed}
 use Rattle.change_protocol.proofs.Placing.{stays_in}
 
--- what is put at a place stands there, and elsewhere stands what stood there
-pub set_there : {A : Type 0} (xs : List A) (i : ℕ) (y : A) → i < length xs → slice_get (slice_set xs i y) i ≡ Some y
-set_there [] i y within = absurd (omega (arith, within))
-set_there (x ∷ xs) zero y within = refl
-set_there (x ∷ xs) (suc i) y within = set_there xs i y (omega (arith, within))
-
-pub set_elsewhere : {A : Type 0} (xs : List A) (i other : ℕ) (y : A) → other ≢ i → slice_get (slice_set xs i y) other ≡ slice_get xs other
-set_elsewhere [] i other y apart = refl
-set_elsewhere (x ∷ xs) zero zero y apart = absurd (apart refl)
-set_elsewhere (x ∷ xs) zero (suc other) y apart = refl
-set_elsewhere (x ∷ xs) (suc i) zero y apart = refl
-set_elsewhere (x ∷ xs) (suc i) (suc other) y apart = set_elsewhere xs i other y (λ same. apart (ap suc same))
-
-pub set_length : {A : Type 0} (xs : List A) (i : ℕ) (y : A) → length (slice_set xs i y) ≡ length xs
+-- a list with another value at a place is as long as before
+set_length : {A : Type 0} (xs : List A) (i : ℕ) (y : A) → length (slice_set xs i y) ≡ length xs
 set_length [] i y = refl
 set_length (x ∷ xs) zero y = refl
 set_length (x ∷ xs) (suc i) y = ap suc (set_length xs i y)
@@ -36,11 +24,6 @@ set_back (x ∷ xs) (suc i) (suc place) y z is = elim (set_back xs i place y z i
   | inl here ↦ inl (ap suc here.0, here.1)
   | inr there ↦ inr there
 ]
-
--- what was done there
-pub served_there : {A : Type 0} (R : A → A → Type 0) (xs : List A) (i : ℕ) (x y : A) → i < length xs → slice_get xs i ≡ Some x → R x y
-    → AreBoth R (slice_get xs i) (slice_get (slice_set xs i y) i)
-served_there R xs i x y within there done = rw (there, set_there xs i y within) done
 
 module _ {Decider : Type 0} where
   served_placed : (versions reached place : ℕ) (server : Kept Decider) (was now : Seen) → IsServed was now

@@ -1,5 +1,5 @@
 -- A change of policy over all managers: how each manager has to stand, and what each step does to it.
-use Rattle.std.specs.Prelude.{◌≡◌, ℕ, ◌+◌, ◌-◌, ◌<◌, ◌≤◌, Bool, true, false, ◌&&◌, ◌==◌, nat_lt, List, length, slice_get, Option, Some, None, option_map, Result, Ok, Err, is_ok, if◌then◌else◌}
+use Rattle.std.specs.Prelude.{◌≡◌, ℕ, ◌+◌, ◌-◌, ◌<◌, ◌≤◌, Bool, true, false, ◌&&◌, ◌==◌, nat_lt, List, length, slice_get, slice_set, Option, Some, None, option_map, Result, Ok, Err, is_ok, if◌then◌else◌}
 use Rattle.std.specs.List.{Contains, list_all}
 use Rattle.access_vectors.specs.Decisions.{Decisions}
 use Rattle.access_vectors.specs.Phases.{number_of, is_pending, acknowledged, AreVersions}
@@ -83,6 +83,14 @@ abbrev pub AreAll : {A S : Type 0} → (A → A → S → Type 0) → Option A �
 AreAll R None None None = Unit {0}
 AreAll R (Some was) (Some now) (Some said) = R was now said
 AreAll R was now said = ⊥
+
+-- a client acted at the manager there, and the others are as they were
+pub record HasServed {Manager : Type 0} (does : Manager → Manager → Type 0) (old new : List Manager) (place : ℕ) : Type 0 where
+  pub was : Manager
+  pub now : Manager
+  pub there : slice_get old place ≡ Some was
+  pub managers : new ≡ slice_set old place now
+  pub done : does was now
 
 -- the same version goes on where it is proposed and some manager has no notice
 abbrev pub goes_on : {Decider : Type 0} → Kept Decider → ℕ → ℕ → ℕ → Bool

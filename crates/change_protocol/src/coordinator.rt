@@ -1,6 +1,6 @@
 //! The coordinator of a change over all managers.
 
-ghost use Rattle.std.specs.Prelude.{◌≡◌, ◌≢◌, ◌<◌, ℕ, false, true, length, slice_get, is_some, not, nat_lt, IfSome, IfOk, IfErr, OnOk, OnErr};
+ghost use Rattle.std.specs.Prelude.{◌≡◌, ◌<◌, ℕ, false, true, length, slice_get, is_some, not, nat_lt, IfSome, IfOk, IfErr, OnOk, OnErr};
 ghost use Rattle.std.specs.List.{Contains};
 ghost use Rattle.access_vectors.specs.Phases.{is_pending};
 ghost use Rattle.managed.specs.Seen.{IsUpdated};
@@ -76,6 +76,7 @@ impl<'d, D: Decider, M: Managed> Coordinator<'d, D, M> {
             (slice_get self.old.managers place) (slice_get self.new.managers place) }
         ensures many { length self.new.managers ≡ length self.old.managers }
         ensures same { (place : ℕ) → Changes.AreBoth M.same (slice_get self.old.managers place) (slice_get self.new.managers place) }
+        ensures was_led { Changes.IsLed D.decides M.seen self.old }
     {
         let count = self.managers.len() as u8;
         let begun = rounds::begin_change(&mut self.server, count, self.reached, ver)?;
@@ -90,6 +91,7 @@ impl<'d, D: Decider, M: Managed> Coordinator<'d, D, M> {
             (slice_get self.old.managers place) (slice_get self.new.managers place) (slice_get left.new place) }
         ensures many { length self.new.managers ≡ length self.old.managers }
         ensures same { (place : ℕ) → Changes.AreBoth M.same (slice_get self.old.managers place) (slice_get self.new.managers place) }
+        ensures was_led { Changes.IsLed D.decides M.seen self.old }
         ensures server { self.new.server ≡ self.old.server }
         ensures reached { self.new.reached ≡ self.old.reached }
     {
@@ -109,6 +111,7 @@ impl<'d, D: Decider, M: Managed> Coordinator<'d, D, M> {
             (slice_get self.old.managers place) (slice_get self.new.managers place) (slice_get said.new place) }
         ensures many { length self.new.managers ≡ length self.old.managers }
         ensures same { (place : ℕ) → Changes.AreBoth M.same (slice_get self.old.managers place) (slice_get self.new.managers place) }
+        ensures was_led { Changes.IsLed D.decides M.seen self.old }
         ensures unreached { is_pending self.old.server.phase ≡ true
             → (place : ℕ) → IfSome (slice_get said.new place) (λ one. Changes.is_idle one ≡ not (nat_lt place self.old.reached)) }
         ensures complete { Changes.IfComplete result (λ number. (place : ℕ)
@@ -157,9 +160,8 @@ impl<'d, D: Decider, M: Serves> Coordinator<'d, D, M> {
     pub fn serve(&mut self, alloc: Global, manager: u8, act: M::Act) -> M::Outcome
         requires there { manager < length self.old.managers }
         requires may { IfSome (slice_get self.old.managers manager) (λ it. M.may it act) }
-        ensures does { Changes.AreBoth (λ was now. M.does was now act result) (slice_get self.old.managers manager) (slice_get self.new.managers manager) }
-        ensures others { (other : ℕ) → other ≢ manager → slice_get self.new.managers other ≡ slice_get self.old.managers other }
-        ensures many { length self.new.managers ≡ length self.old.managers }
+        ensures served { Changes.HasServed (λ was now. M.does was now act result) self.old.managers self.new.managers manager }
+        ensures was_led { Changes.IsLed D.decides M.seen self.old }
         ensures server { self.new.server ≡ self.old.server }
         ensures reached { self.new.reached ≡ self.old.reached }
     {

@@ -1,7 +1,7 @@
 use Rattle.std.proofs.Common.{◌<◌, ◌≡◌, length, Some, refl}
 use Rattle.std.specs.Prelude.{slice_get}
 use Rattle.std.proofs.lemmas.Option.{slice_get_read}
-use Rattle.change_protocol.proofs.Serving.{set_elsewhere, served_there, served_led}
+use Rattle.change_protocol.proofs.Serving.{served_led}
 use Rattle.change_protocol.proofs.coordinator.Coordinator.serve.Given as given
 use Rattle.change_protocol.proofs.coordinator.Coordinator.serve.Goals as goal
 
@@ -17,10 +17,7 @@ invariant_of-self g c =
     served_led g.D.Decider.decides g.M.Managed.seen c.self.inside.server c.self.inside.managers.items c.self.inside.reached c.from.result c.index_mut.result.now c.serve.new.self
     c.self.invariant (within g c) (there g c) c.serve.ensures.served
 
-pub returns-clause-does : goal.returns-clause-does
-returns-clause-does g c =
-    rw (← c.self.view_is, ← c.from.ensures) (served_there _ c.self.inside.managers.items c.from.result c.index_mut.result.now c.serve.new.self (within g c) (there g c) c.serve.ensures.does)
-
-pub returns-clause-others : goal.returns-clause-others
-returns-clause-others g c =
-    rw (← c.self.view_is, ← c.from.ensures) (λ other apart. set_elsewhere c.self.inside.managers.items c.from.result other c.serve.new.self apart)
+pub returns-clause-served : goal.returns-clause-served
+returns-clause-served g c =
+    rw (← c.self.view_is, ← c.from.ensures)
+    (record { was = c.index_mut.result.now; now = c.serve.new.self; there = there g c; managers = refl; done = c.serve.ensures.does })
