@@ -36,14 +36,19 @@ pub data Place : Type 0 where
   Processes : Post process_states.ProcessState → Place
   Ports : Post port_states.PortState → Place
 
--- what a call gets of its plain manager: the reply, the denial that it is, if it is one, and what was asked
+-- the denial that a reply is, if it is one
+abbrev pub denial_of : Reply → Option Denial
+denial_of (reply.File got) = file.denial_of got
+denial_of (reply.Process got) = process.denial_of got
+denial_of (reply.Port got) = port.denial_of got
+
+-- what a call gets of its plain manager: the reply, and what was asked
 pub record Told : Type 0 where
   pub reply : Reply
-  pub denial : Option Denial
   pub asked : List Asked
 
-abbrev pub told : {R State : Type 0} → (R → Reply) → (R → Option Denial) → Answer R State → Told
-told wrap denial_of answer = record { reply = wrap answer.reply; denial = denial_of answer.reply; asked = answer.asked }
+abbrev pub told : {R State : Type 0} → (R → Reply) → Answer R State → Told
+told wrap answer = record { reply = wrap answer.reply; asked = answer.asked }
 
 -- a client's call is of the manager that stands there, and well formed
 abbrev pub MayCall : Decisions → Place → ℕ → Call → Type 0
@@ -54,9 +59,9 @@ MayCall d post client asks = ⊥
 
 -- what it gets there, under the client's held pass or else the newest number
 abbrev pub TellsCall : Decisions → Place → ℕ → Call → Told → Type 0
-TellsCall d (Files post) client (call.File asks) got = got ≡ told reply.File file.denial_of (answer_on file.answer d post client asks)
-TellsCall d (Processes post) client (call.Process asks) got = got ≡ told reply.Process process.denial_of (answer_on process.answer d post client asks)
-TellsCall d (Ports post) client (call.Port asks) got = got ≡ told reply.Port port.denial_of (answer_on port.answer d post client asks)
+TellsCall d (Files post) client (call.File asks) got = got ≡ told reply.File (answer_on file.answer d post client asks)
+TellsCall d (Processes post) client (call.Process asks) got = got ≡ told reply.Process (answer_on process.answer d post client asks)
+TellsCall d (Ports post) client (call.Port asks) got = got ≡ told reply.Port (answer_on port.answer d post client asks)
 TellsCall d post client asks got = ⊥
 
 -- where the manager stands after it

@@ -1,17 +1,16 @@
 -- Where a session stands, by its managers.
-use Rattle.std.specs.Prelude.{◌≡◌, ℕ, ◌≤◌, true, Bool, List, [], ◌∷◌, slice_get, Option, Some, None, option_map}
+use Rattle.std.specs.Prelude.{◌≡◌, ℕ, true, Bool, not, ◌||◌, ◌==◌, unwrap_or, List, [], ◌∷◌, slice_get, Option, Some, None, option_map}
 use Rattle.access_vectors.specs.Decisions.{Decisions}
 use Rattle.access_vectors.specs.Phases.{is_pending}
 use Rattle.access_vectors.specs.declared.asked.Asked.{Asked}
 use Rattle.managed.specs.Posts.{Post, opened_post}
-use Rattle.managed.specs.Seen.{Seen}
 use Rattle.managed.specs.declared.managed.Event.{Event}
-use Rattle.security_server.specs.Numbering.{Kept}
 use Rattle.change_protocol.specs.Changes.{Led}
 use Rattle.file_calls.specs.States as file_states
 use Rattle.process_calls.specs.States as process_states
 use Rattle.port_calls.specs.States as port_states
 use Rattle.session_desk.specs.Days.{Day, most_number, pending_at}
+use Rattle.session_desk.specs.Desks.{Standing}
 use Rattle.session_desk.specs.One as one
 use Rattle.session_desk.specs.One.{Place, Files, Processes, Ports}
 use Rattle.session_desk.specs.declared.one_manager.OneManager.{OneManager}
@@ -44,9 +43,30 @@ day_of managers calls denied changes = record {
   changes = changes;
 }
 
+-- what the manager of that number asked last, and its history
+abbrev pub asked_at : {D : Type 0} → List (OneManager D) → ℕ → List Asked
+asked_at managers number = unwrap_or (option_map one.last_asked (slice_get managers number)) []
+
+abbrev pub events_at : {D : Type 0} → (D → Decisions) → List (OneManager D) → ℕ → List Event
+events_at decides managers number = unwrap_or (option_map (λ m. (one.seen decides m).history) (slice_get managers number)) []
+
 -- every manager has the notice of the number that is proposed, if one is
-abbrev pub IsWhole : {D M : Type 0} → Led D M → Type 0
-IsWhole led = is_pending led.server.phase ≡ true → led.reached ≡ 3
+abbrev pub is_whole : {D M : Type 0} → Led D M → Bool
+is_whole led = not (is_pending led.server.phase) || (led.reached == 3)
+
+-- what contracts see of a session with these managers and counts
+abbrev pub standing_of : {D : Type 0} → (D → Decisions) → Led D (OneManager D) → ℕ → ℕ → ℕ → Standing D
+standing_of decides led calls denied changes = record {
+  day = day_of led.managers calls denied changes;
+  decider = led.server.decider;
+  asked = record { files = asked_at led.managers 0; processes = asked_at led.managers 1; ports = asked_at led.managers 2 };
+  events = record {
+    files = events_at decides led.managers 0;
+    processes = events_at decides led.managers 1;
+    ports = events_at decides led.managers 2;
+  };
+  whole = is_whole led;
+}
 
 -- the managers are those of files, of processes and of ports, in this order, under the server's decider and with the last
 -- policy number that may be made; and where each has its notice a number is proposed exactly while one of them has not
@@ -66,4 +86,4 @@ pub record IsSession {D : Type 0} (led : Led D (OneManager D)) : Type 0 where
   pub process_decider : one.decider_of process ≡ led.server.decider
   pub port_decider : one.decider_of port ≡ led.server.decider
   pub most : led.server.most ≡ most_number
-  pub changing : IsWhole led → is_pending led.server.phase ≡ pending_at files.phase processes.phase ports.phase
+  pub changing : is_whole led ≡ true → is_pending led.server.phase ≡ pending_at files.phase processes.phase ports.phase

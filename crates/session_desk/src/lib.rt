@@ -12,7 +12,8 @@ mod one_manager;
 mod opening;
 
 pub use acting::{Act, Call, ClientAct, Reply};
-pub use changes::{Acks, Left};
-pub use desk::{Acted, Desk};
+pub use acts::Acted;
+pub use changes::Acks;
+pub use desk::Desk;
 pub use one_manager::OneManager;
 pub use opening::Openings;

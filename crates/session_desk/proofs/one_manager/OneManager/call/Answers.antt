@@ -27,7 +27,7 @@ returns-clause-done g c = elim c.match-self.branch [
     let after = called file.followed (decides was.keeper.decider) post c.args.client asks answer in
     let added = history_seen decides class.File file.pair_of one.file_opening file_store.state_of file_store.follows was now c.args.client c.args.mark asks answer.asked _ did.added in
     rw (w.in-File-File.is-0, w.in-File-File.is-1, w.self-is, w.result-is) (record {
-      told = one.told reply.File file.denial_of answer;
+      told = one.told reply.File answer;
       tells = refl;
       reply = ap reply.File did.reply;
       asked = asked_last was.keeper.history now.keeper.history c.args.client c.args.mark asks _ answer.asked _ did.added;
@@ -50,7 +50,7 @@ returns-clause-done g c = elim c.match-self.branch [
     let after = called process.followed (decides was.keeper.decider) post c.args.client asks answer in
     let added = history_seen decides class.Process process.pair_of one.process_opening process_store.state_of process_store.follows was now c.args.client c.args.mark asks answer.asked _ did.added in
     rw (w.in-Process-Process.is-0, w.in-Process-Process.is-1, w.self-is, w.result-is) (record {
-      told = one.told reply.Process process.denial_of answer;
+      told = one.told reply.Process answer;
       tells = refl;
       reply = ap reply.Process did.reply;
       asked = asked_last was.keeper.history now.keeper.history c.args.client c.args.mark asks _ answer.asked _ did.added;
@@ -73,7 +73,7 @@ returns-clause-done g c = elim c.match-self.branch [
     let after = called port.followed (decides was.keeper.decider) post c.args.client asks answer in
     let added = history_seen decides class.Port port.pair_of one.port_opening port_store.state_of port_store.follows was now c.args.client c.args.mark asks answer.asked _ did.added in
     rw (w.in-Port-Port.is-0, w.in-Port-Port.is-1, w.self-is, w.result-is) (record {
-      told = one.told reply.Port port.denial_of answer;
+      told = one.told reply.Port answer;
       tells = refl;
       reply = ap reply.Port did.reply;
       asked = asked_last was.keeper.history now.keeper.history c.args.client c.args.mark asks _ answer.asked _ did.added;
