@@ -4,6 +4,7 @@ pub mod Vectors
 pub mod Decisions
 pub mod Asking
 pub mod Phases
+pub mod Notices
 pub mod Mapped
 pub mod Stale
 pub mod NoSlots

@@ -4,6 +4,7 @@
 mod asked;
 mod asker;
 mod asking;
+mod change;
 mod class;
 mod decider;
 mod perm;
@@ -17,6 +18,7 @@ mod vector;
 pub use asked::Asked;
 pub use asker::Asker;
 pub use asking::ask;
+pub use change::{NotifyFault, Receipt};
 pub use class::{Class, class_name, class_of};
 pub use decider::Decider;
 pub use perm::{Perm, perm_name, perm_of};

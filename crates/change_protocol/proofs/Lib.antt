@@ -3,3 +3,4 @@ pub mod Receipts
 pub mod Placing
 pub mod Noticing
 pub mod Acknowledging
+pub mod Serving

@@ -1,18 +1,18 @@
 -- How managers stand as a version is proposed and given to them.
 use Rattle.std.proofs.Common.{◌≡◌, ◌≢◌, ℕ, ◌+◌, ◌-◌, ◌<◌, ◌≤◌, Bool, true, false, List, length, Option, Some, None, Result, Ok, Err, is_ok, refl, ap, subst, ◌∙◌, arith}
-use Rattle.std.specs.Prelude.{slice_get, ◌==◌, nat_lt, ◌&&◌, if◌then◌else◌}
+use Rattle.std.specs.Prelude.{slice_get, option_map, ◌==◌, nat_lt, ◌&&◌, if◌then◌else◌}
 use Rattle.std.proofs.lemmas.Bool.Decides.{nat_tests}
 use Rattle.access_vectors.specs.Decisions.{Decisions}
 use Rattle.access_vectors.specs.Phases.{number_of, noticed, AreVersions}
 use Rattle.access_vectors.specs.declared.phase.Phase.{Phase}
 use Rattle.access_vectors.specs.declared.phase.Phase.TheVariants.{Settled, Pending}
-use Rattle.manager_history.specs.Kept.{notice_fault}
-use Rattle.manager_history.specs.declared.answers.NotifyFault.{NotifyFault}
-use Rattle.manager_history.specs.declared.answers.NotifyFault.TheVariants as refusing
+use Rattle.access_vectors.specs.Notices.{notice_fault}
+use Rattle.access_vectors.specs.declared.change.NotifyFault.{NotifyFault}
+use Rattle.access_vectors.specs.declared.change.NotifyFault.TheVariants as refusing
 use Rattle.managed.specs.Seen.{Seen, IsNotified}
 use Rattle.managed.specs.declared.managed.Event.{Event}
 use Rattle.security_server.specs.Numbering.{Kept, is_in}
-use Rattle.change_protocol.specs.Changes.{AreBoth, MayBeIn, IsPlaced, ArePlaced, IsSound, IsLed, IsTold, IsToldAt, IsNotifiedAt, phase_at, started, started_on, first_on, number_after, notify_all_fault}
+use Rattle.change_protocol.specs.Changes.{AreBoth, MayBeIn, IsPlaced, ArePlaced, IsSound, IsLed, IsTold, IsToldAt, IsNotifiedAt, phase_at, started, started_on, first_on, number_after, notify_all_fault, for_all}
 use Rattle.change_protocol.specs.declared.answers.NotifyAllFault.{NotifyAllFault}
 use Rattle.change_protocol.specs.declared.answers.NotifyAllFault.TheVariants as faults
 use Rattle.change_protocol.proofs.Placing.{both_back}
@@ -34,6 +34,11 @@ unspoken versions most number old version below apart =
     let here : nat_lt version versions ≡ true = grind (arith, nat_tests) in
     let fresh : (number == most) ≡ false = grind (arith, nat_tests) in
     rw (here, fresh) refl
+
+-- where no notice to all is refused, none is
+none_for_all : (fault : Option NotifyFault) → option_map for_all fault ≡ None → fault ≡ None
+none_for_all None is = refl
+none_for_all (Some fault) is = cc
 
 -- the same version goes on
 same_version : (new version reached managers : ℕ) (pending : NotifyAllFault) → (if (new == version) && nat_lt reached managers then None else Some pending) ≡ None → new ≡ version
@@ -58,7 +63,7 @@ module _ {Decider Manager : Type 0} (decides : Decider → Decisions) (seen : Ma
       → notify_all_fault (decides decider).versions server reached version ≡ None
       → IsBegun (started server version) xs (first_on phase reached) (number_after phase) version)
   begun_at decider managers most (Settled number old) receipts xs reached version sound within placed allowed =
-      let may = may_propose faults.Spent faults.NoVersion (decides decider).versions most number version allowed in
+      let may = may_propose refusing.Spent refusing.NoVersion (decides decider).versions most number version (none_for_all _ allowed) in
       record {
         old = old;
         pending = refl;

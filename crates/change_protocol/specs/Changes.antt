@@ -1,5 +1,5 @@
 -- A change of policy over all managers: how each manager has to stand, and what each step does to it.
-use Rattle.std.specs.Prelude.{◌≡◌, ℕ, ◌+◌, ◌-◌, ◌<◌, ◌≤◌, Bool, true, false, ◌&&◌, ◌==◌, nat_lt, List, length, slice_get, Option, Some, None, Result, Ok, Err, is_ok, if◌then◌else◌}
+use Rattle.std.specs.Prelude.{◌≡◌, ℕ, ◌+◌, ◌-◌, ◌<◌, ◌≤◌, Bool, true, false, ◌&&◌, ◌==◌, nat_lt, List, length, slice_get, slice_set, Option, Some, None, option_map, Result, Ok, Err, is_ok, if◌then◌else◌}
 use Rattle.std.specs.List.{Contains, list_all}
 use Rattle.access_vectors.specs.Decisions.{Decisions}
 use Rattle.access_vectors.specs.Phases.{number_of, is_pending, acknowledged, AreVersions}
@@ -7,8 +7,9 @@ use Rattle.access_vectors.specs.declared.phase.Phase.{Phase}
 use Rattle.access_vectors.specs.declared.phase.Phase.TheVariants.{Settled, Pending}
 use Rattle.manager_history.specs.declared.answers.Ack.{Ack}
 use Rattle.manager_history.specs.declared.answers.Ack.TheVariants as acks
-use Rattle.manager_history.specs.declared.answers.NotifyFault.{NotifyFault}
-use Rattle.manager_history.specs.declared.answers.NotifyFault.TheVariants as refusing
+use Rattle.access_vectors.specs.declared.change.NotifyFault.{NotifyFault}
+use Rattle.access_vectors.specs.declared.change.NotifyFault.TheVariants as refusing
+use Rattle.access_vectors.specs.Notices.{notice_fault}
 use Rattle.managed.specs.Seen.{Seen, IsNotified, IsAcknowledged}
 use Rattle.managed.specs.declared.managed.Event.{Event}
 use Rattle.managed.specs.declared.managed.Event.TheVariants.{Acknowledgement}
@@ -83,16 +84,30 @@ AreAll R None None None = Unit {0}
 AreAll R (Some was) (Some now) (Some said) = R was now said
 AreAll R was now said = ⊥
 
+-- a client acted at the manager there, and the others are as they were
+pub record HasServed {Manager : Type 0} (does : Manager → Manager → Type 0) (old new : List Manager) (place : ℕ) : Type 0 where
+  pub was : Manager
+  pub now : Manager
+  pub there : slice_get old place ≡ Some was
+  pub managers : new ≡ slice_set old place now
+  pub done : does was now
+
 -- the same version goes on where it is proposed and some manager has no notice
 abbrev pub goes_on : {Decider : Type 0} → Kept Decider → ℕ → ℕ → ℕ → Bool
 goes_on server reached proposed version = (proposed == version) && nat_lt reached server.managers
+
+-- a refusal as one of the notices to all: no manager is reached
+abbrev pub for_all : NotifyFault → NotifyAllFault
+for_all (refusing.Pending number) = faults.Pending number
+for_all refusing.NoVersion = faults.NoVersion
+for_all refusing.Spent = faults.Spent
+for_all refusing.Memory = faults.Memory 0
 
 -- why a version is not given to all managers, in the order of the tests; want of memory is none of these
 abbrev pub fault_on : {Decider : Type 0} → Phase → ℕ → Kept Decider → ℕ → ℕ → Option NotifyAllFault
 fault_on (Pending number old new) versions server reached version =
     if goes_on server reached new version then None else Some (faults.Pending number)
-fault_on (Settled number old) versions server reached version =
-    if nat_lt version versions then (if number == server.most then Some faults.Spent else None) else Some faults.NoVersion
+fault_on (Settled number old) versions server reached version = option_map for_all (notice_fault (Settled number old) versions version server.most)
 
 abbrev pub notify_all_fault : {Decider : Type 0} → ℕ → Kept Decider → ℕ → ℕ → Option NotifyAllFault
 notify_all_fault versions server reached version = fault_on server.phase versions server reached version

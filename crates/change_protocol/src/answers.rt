@@ -1,3 +1,5 @@
+//! What the coordinator answers.
+
 /// Why a version is not given to all managers: number `Pending` is not complete yet, the decider has no such version, the
 /// policy numbers are spent, or memory is wanted. After `Memory` the number is proposed, and the first `reached` managers
 /// have its notice.

@@ -1,4 +1,6 @@
-ghost use Rattle.std.specs.Prelude.{◌≡◌, ℕ, false, true, length, slice_get, is_some, not, nat_lt, IfSome, IfOk, IfErr, OnOk, OnErr};
+//! The coordinator of a change over all managers.
+
+ghost use Rattle.std.specs.Prelude.{◌≡◌, ◌<◌, ℕ, false, true, length, slice_get, is_some, not, nat_lt, IfSome, IfOk, IfErr, OnOk, OnErr};
 ghost use Rattle.std.specs.List.{Contains};
 ghost use Rattle.access_vectors.specs.Phases.{is_pending};
 ghost use Rattle.managed.specs.Seen.{IsUpdated};
@@ -9,7 +11,7 @@ ghost use Rattle.change_protocol.specs.Changes;
 use crate::answers::{AckAll, NotifyAllFault, Said};
 use crate::rounds;
 use access_vectors::Decider;
-use managed::Managed;
+use managed::{Managed, Serves};
 use security_server::Server;
 use std::alloc::Global;
 use std::marker::Model;
@@ -74,6 +76,7 @@ impl<'d, D: Decider, M: Managed> Coordinator<'d, D, M> {
             (slice_get self.old.managers place) (slice_get self.new.managers place) }
         ensures many { length self.new.managers ≡ length self.old.managers }
         ensures same { (place : ℕ) → Changes.AreBoth M.same (slice_get self.old.managers place) (slice_get self.new.managers place) }
+        ensures was_led { Changes.IsLed D.decides M.seen self.old }
     {
         let count = self.managers.len() as u8;
         let begun = rounds::begin_change(&mut self.server, count, self.reached, ver)?;
@@ -88,6 +91,7 @@ impl<'d, D: Decider, M: Managed> Coordinator<'d, D, M> {
             (slice_get self.old.managers place) (slice_get self.new.managers place) (slice_get left.new place) }
         ensures many { length self.new.managers ≡ length self.old.managers }
         ensures same { (place : ℕ) → Changes.AreBoth M.same (slice_get self.old.managers place) (slice_get self.new.managers place) }
+        ensures was_led { Changes.IsLed D.decides M.seen self.old }
         ensures server { self.new.server ≡ self.old.server }
         ensures reached { self.new.reached ≡ self.old.reached }
     {
@@ -107,6 +111,7 @@ impl<'d, D: Decider, M: Managed> Coordinator<'d, D, M> {
             (slice_get self.old.managers place) (slice_get self.new.managers place) (slice_get said.new place) }
         ensures many { length self.new.managers ≡ length self.old.managers }
         ensures same { (place : ℕ) → Changes.AreBoth M.same (slice_get self.old.managers place) (slice_get self.new.managers place) }
+        ensures was_led { Changes.IsLed D.decides M.seen self.old }
         ensures unreached { is_pending self.old.server.phase ≡ true
             → (place : ℕ) → IfSome (slice_get said.new place) (λ one. Changes.is_idle one ≡ not (nat_lt place self.old.reached)) }
         ensures complete { Changes.IfComplete result (λ number. (place : ℕ)
@@ -126,6 +131,14 @@ impl<'d, D: Decider, M: Managed> Coordinator<'d, D, M> {
         rounds::complete_or_wait(&mut self.server, number)
     }
 
+    /// The managers, each of which stands as it has to by what the server has proposed.
+    pub fn managers(&self) -> &[M]
+        ensures managers { result.now ≡ self.now.managers }
+        ensures led { Changes.IsLed D.decides M.seen self.now }
+    {
+        self.managers.as_slice()
+    }
+
     /// Gives back the server, the managers and how many of them have the notice of the number that is proposed.
     pub fn release(self) -> (Server<'d, D>, Vec<M>, u8)
         ensures server { result.0 ≡ self.entry.server }
@@ -139,5 +152,19 @@ impl<'d, D: Decider, M: Managed> Coordinator<'d, D, M> {
             reached,
         } = self;
         (server, managers, reached)
+    }
+}
+
+impl<'d, D: Decider, M: Serves> Coordinator<'d, D, M> {
+    /// Does a client's act at the manager with that number. The others stay as they are.
+    pub fn serve(&mut self, alloc: Global, manager: u8, act: M::Act) -> M::Outcome
+        requires there { manager < length self.old.managers }
+        requires may { IfSome (slice_get self.old.managers manager) (λ it. M.may it act) }
+        ensures served { Changes.HasServed (λ was now. M.does was now act result) self.old.managers self.new.managers manager }
+        ensures was_led { Changes.IsLed D.decides M.seen self.old }
+        ensures server { self.new.server ≡ self.old.server }
+        ensures reached { self.new.reached ≡ self.old.reached }
+    {
+        self.managers[usize::from(manager)].serve(alloc, act)
     }
 }

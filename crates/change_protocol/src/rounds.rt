@@ -1,13 +1,15 @@
+//! One round over the managers: of notices, of updates, of questions whether they acknowledge.
+
 ghost use Rattle.std.specs.Prelude.{◌≡◌, ◌≢◌, ℕ, ◌<◌, ◌≤◌, length, slice_get, vec_len, None, Some, false, IfSome, IfOk, IfErr, OnOk, OnErr, if◌then◌else◌};
 ghost use Rattle.managed.specs.Seen.{IsUpdated};
 ghost use Rattle.security_server.specs.Numbering.{is_in, with_receipt, is_complete, completed};
 ghost use Rattle.change_protocol.specs.Changes;
 
 use crate::answers::{AckAll, NotifyAllFault, Said};
-use access_vectors::Decider;
+use access_vectors::{Decider, NotifyFault};
 use managed::Managed;
 use manager_history::Ack;
-use security_server::{ProposeFault, Receipt, Server};
+use security_server::Server;
 use std::alloc::Global;
 use std::sync::Wait;
 
@@ -48,9 +50,19 @@ pub(crate) fn begin_change<D: Decider>(
     }
     match server.propose(u16::from(ver)) {
         Ok(number) => Ok(Begun { number, first: 0 }),
-        Err(ProposeFault::Pending(number)) => Err(NotifyAllFault::Pending(number)),
-        Err(ProposeFault::NoVersion) => Err(NotifyAllFault::NoVersion),
-        Err(ProposeFault::Spent) => Err(NotifyAllFault::Spent),
+        Err(fault) => Err(for_all(fault)),
+    }
+}
+
+/// A server's refusal as one of the notices to all.
+fn for_all(fault: NotifyFault) -> NotifyAllFault
+    ensures { result ≡ Changes.for_all fault }
+{
+    match fault {
+        NotifyFault::Pending(number) => NotifyAllFault::Pending(number),
+        NotifyFault::NoVersion => NotifyAllFault::NoVersion,
+        NotifyFault::Spent => NotifyAllFault::Spent,
+        NotifyFault::Memory => NotifyAllFault::Memory { reached: 0 },
     }
 }
 
@@ -116,10 +128,7 @@ fn ask<D: Decider, M: Managed, R: Wait>(rt: &R, server: &mut Server<'_, D>, mana
 {
     match manager.acknowledge(rt) {
         Ack::Done(receipt) => {
-            let _ = server.collect(Receipt {
-                manager: receipt.manager,
-                number: receipt.number,
-            });
+            let _ = server.collect(receipt);
             Said::Kept
         }
         Ack::Busy { older } => Said::Busy(older),

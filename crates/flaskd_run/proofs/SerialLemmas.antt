@@ -10,8 +10,8 @@ use Rattle.access_vectors.specs.Phases.{number_of, is_pending, noticed, acknowle
 use Rattle.access_vectors.specs.declared.phase.Phase.{Phase}
 use Rattle.access_vectors.specs.declared.phase.Phase.TheVariants.{Settled, Pending}
 use Rattle.manager_history.specs.Kept.{is_done}
-use Rattle.manager_history.specs.declared.answers.NotifyFault.{NotifyFault}
-use Rattle.manager_history.specs.declared.answers.NotifyFault.TheVariants as faults
+use Rattle.access_vectors.specs.declared.change.NotifyFault.{NotifyFault}
+use Rattle.access_vectors.specs.declared.change.NotifyFault.TheVariants as faults
 use Rattle.managed.specs.Posts.{Post, settled_if}
 use Rattle.policy_text.specs.declared.policy.ContextLine.{ContextLine}
 use Rattle.file_calls.specs.Plain as file

@@ -3,8 +3,8 @@ use Rattle.std.specs.Prelude.{ℕ, List, [], ◌∷◌, ◌++◌, length, Option
 use Rattle.access_vectors.specs.Table.{Permission, class_word, perm_word}
 use Rattle.manager_history.specs.declared.answers.Ack.{Ack}
 use Rattle.manager_history.specs.declared.answers.Ack.TheVariants as acks
-use Rattle.manager_history.specs.declared.answers.NotifyFault.{NotifyFault}
-use Rattle.manager_history.specs.declared.answers.NotifyFault.TheVariants as faults
+use Rattle.access_vectors.specs.declared.change.NotifyFault.{NotifyFault}
+use Rattle.access_vectors.specs.declared.change.NotifyFault.TheVariants as faults
 use Rattle.flask_sid.specs.declared.context.ContextOf.{ContextOf}
 use Rattle.policy_versions.specs.Judging.{context_with}
 use Rattle.file_calls.specs.declared.call.FileReply.{FileReply}

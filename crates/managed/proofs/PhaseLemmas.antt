@@ -6,9 +6,10 @@ use Rattle.access_vectors.specs.Phases.{number_of, version_at, noticed, acknowle
 use Rattle.access_vectors.specs.declared.phase.Phase.{Phase}
 use Rattle.access_vectors.specs.declared.phase.Phase.TheVariants.{Settled, Pending}
 use Rattle.manager_history.specs.Passing.{older_count}
-use Rattle.manager_history.specs.Kept.{notice_fault, ack_answer, is_done}
-use Rattle.manager_history.specs.declared.answers.NotifyFault.{NotifyFault}
-use Rattle.manager_history.specs.declared.answers.NotifyFault.TheVariants as faults
+use Rattle.access_vectors.specs.Notices.{notice_fault}
+use Rattle.manager_history.specs.Kept.{Kept, ack_answer, is_done}
+use Rattle.access_vectors.specs.declared.change.NotifyFault.{NotifyFault}
+use Rattle.access_vectors.specs.declared.change.NotifyFault.TheVariants as faults
 use Rattle.manager_history.specs.declared.answers.Ack.{Ack}
 use Rattle.manager_history.specs.declared.answers.Ack.TheVariants as acks
 use Rattle.managed.specs.Posts.{AreNamed}
@@ -36,6 +37,11 @@ allowed_notice versions most settled old version =
       ] refl
       | false ↦ λ is e. cc
     ] refl
+
+-- a keeper that is as before is in the phase that it was in
+pub as_before_phase : {Core Decider Call Reply : Type 0} (old new : Kept Core Decider Call Reply) (said : Result ℕ NotifyFault) → OnErr said (new ≡ old) → OnErr said (new.phase ≡ old.phase)
+as_before_phase old new (Ok number) same = tt
+as_before_phase old new (Err fault) same = ap (λ k. k.phase) same
 
 -- after a notice
 pub noticed_keeps : (said : Result ℕ NotifyFault) (versions most : ℕ) (phase next : Phase) (held : List (Option ℕ)) (version : ℕ) → KeepsPhase versions most phase held → IfOk said (λ number. next ≡ noticed phase number version) → IfOk said (λ number. number ≡ number_of phase + 1) → OnOk said (notice_fault phase versions version most ≡ None) → OnErr said (next ≡ phase) → KeepsPhase versions most next held

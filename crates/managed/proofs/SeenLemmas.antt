@@ -10,12 +10,13 @@ use Rattle.access_vectors.specs.Stale.{Follows, Pair}
 use Rattle.access_vectors.specs.declared.class.Class.{Class}
 use Rattle.access_vectors.specs.declared.phase.Phase.{Phase}
 use Rattle.access_vectors.specs.declared.phase.Phase.TheVariants.{Settled, Pending}
-use Rattle.manager_history.specs.Kept.{notice_fault, IsRefusal, ack_answer, is_done}
+use Rattle.access_vectors.specs.Notices.{notice_fault, IsRefusal}
+use Rattle.manager_history.specs.Kept.{ack_answer, is_done}
 use Rattle.manager_history.specs.declared.answers.Ack.{Ack}
-use Rattle.manager_history.specs.declared.answers.NotifyFault.{NotifyFault}
+use Rattle.access_vectors.specs.declared.change.NotifyFault.{NotifyFault}
 use Rattle.manager_history.specs.declared.entry.Entry.{Entry}
 use Rattle.manager_history.specs.declared.entry.Entry.TheVariants as entry
-use Rattle.managed.specs.Posts.{Post, Stood, post_of, stale_on, older_on, notified, updated, settled_if, shown_after, tries_after, added_by}
+use Rattle.managed.specs.Posts.{Post, Stood, IsSameManager, IsSameUntried, post_of, stale_on, older_on, notified, updated, settled_if, shown_after, tries_after, added_by}
 use Rattle.managed.specs.Seen.{Seen, IsOperation, IsGrown, IsNotified, IsUpdated, IsAcknowledged, IsTriedWhere, IsSame, event_of, acknowledging, settled_follows}
 use Rattle.managed.specs.Administered.{seen_of}
 use Rattle.managed.specs.declared.managed.Shown.{Shown}
@@ -74,43 +75,47 @@ settled_slots p false = refl
 settled_slots p true = refl
 
 module _ {Core Decider Call Reply State : Type 0} (decides : Decider → Decisions) (class : Class) (pair_of : State → ℕ → Option Pair)
-    (state : Core → State) (follows : Core → Follows) where
+    (opening state : Core → State) (follows : Core → Follows) where
   abbrev seen : Stood Core Decider Call Reply → Seen
   seen = seen_of decides class pair_of state follows
 
   abbrev post : Stood Core Decider Call Reply → Post State
   post = post_of state follows
 
-  -- what no call changes
-  pub record Stays (old new : Stood Core Decider Call Reply) : Type 0 where
-    pub decider : new.keeper.decider ≡ old.keeper.decider
-    pub manager : new.keeper.manager ≡ old.keeper.manager
-    pub most : new.most ≡ old.most
+  abbrev Stays : Stood Core Decider Call Reply → Stood Core Decider Call Reply → Type 0
+  Stays = IsSameManager opening
 
   same_seen : (old new : Stood Core Decider Call Reply) → Stays old new → IsSame (seen old) (seen new)
   same_seen old new stays = record { manager = stays.manager; most = stays.most; versions = ap (λ d. (decides d).versions) stays.decider }
 
-  pub noticed_seen : (old new : Stood Core Decider Call Reply) (said : Result ℕ NotifyFault) (version : ℕ) → Stays old new
-      → new.tries ≡ old.tries → new.shown ≡ old.shown
+  -- it is the same manager where no change was tried either
+  manager : {old new : Stood Core Decider Call Reply} → IsSameUntried opening old new → Stays old new
+  manager same = record { opened = same.opened; decider = same.decider; manager = same.manager; most = same.most }
+
+  pub noticed_seen : (old new : Stood Core Decider Call Reply) (said : Result ℕ NotifyFault) (version : ℕ) → IsSameUntried opening old new
       → IfErr said (IsRefusal (notice_fault old.keeper.phase (decides old.keeper.decider).versions version old.most))
       → OnOk said (notice_fault old.keeper.phase (decides old.keeper.decider).versions version old.most ≡ None)
       → IfOk said (λ number. number ≡ number_of old.keeper.phase + 1)
       → OnOk said (post new ≡ notified (post old) version)
       → IfOk said (λ number. new.keeper.history ≡ old.keeper.history ++ entry.Notice number version ∷ [])
-      → OnErr said (post new ≡ post old)
-      → OnErr said (new.keeper.history ≡ old.keeper.history)
+      → OnErr said (new ≡ old)
       → IsNotified version (seen old) (seen new) said
-  noticed_seen old new (Err fault) version stays tries shown refused allowed number made added post_is history_is = record {
-    same = same_seen old new stays;
-    untried = record { tries = tries; shown = shown };
-    answer = record { refused = refused; phase = ap (λ p. p.phase) post_is; history = stayed _ _ _ history_is; items = refl };
+  noticed_seen old new (Err fault) version stays refused allowed number made added as_before = record {
+    same = same_seen old new (manager stays);
+    untried = record { tries = stays.tries; shown = stays.shown };
+    answer = record {
+      refused = refused;
+      phase = ap (λ s. s.keeper.phase) as_before;
+      history = stayed _ _ _ (ap (λ s. s.keeper.history) as_before);
+      items = refl;
+    };
     older = refl;
-    follows = ap (λ p. Some p.follows) post_is;
+    follows = ap (λ s. Some (post s).follows) as_before;
     stale = refl;
   }
-  noticed_seen old new (Ok number) version stays tries shown refused allowed number_is made added post_is history_is = record {
-    same = same_seen old new stays;
-    untried = record { tries = tries; shown = shown };
+  noticed_seen old new (Ok number) version stays refused allowed number_is made added as_before = record {
+    same = same_seen old new (manager stays);
+    untried = record { tries = stays.tries; shown = stays.shown };
     answer = record {
       allowed = allowed;
       number_is = number_is;
@@ -123,7 +128,7 @@ module _ {Core Decider Call Reply State : Type 0} (decides : Decider → Decisio
     stale = refl;
   }
 
-  pub revised_seen : (old new : Stood Core Decider Call Reply) (most left : ℕ) (stale : List ℕ) → Stays old new
+  pub updated_seen : (old new : Stood Core Decider Call Reply) (most left : ℕ) (stale : List ℕ) → Stays old new
       → stale ≡ stale_on (decides old.keeper.decider) class pair_of (post old)
       → left ≡ length (drop most stale)
       → post new ≡ updated (post old) stale most
@@ -132,7 +137,7 @@ module _ {Core Decider Call Reply State : Type 0} (decides : Decider → Decisio
       → new.tries ≡ counted old.tries
       → new.keeper.history ≡ old.keeper.history
       → IsUpdated most (seen old) (seen new) left
-  revised_seen old new most left stale stays stale_is left_is post_is shown remaining tries history_is =
+  updated_seen old new most left stale stays stale_is left_is post_is shown remaining tries history_is =
       let found : new.shown.found ≡ length stale = ap (λ s. s.found) shown in
       let left_shown : new.shown.left ≡ length (drop most stale) = ap (λ s. s.left) shown in
       record {
@@ -150,14 +155,14 @@ module _ {Core Decider Call Reply State : Type 0} (decides : Decider → Decisio
         stale = ap (λ d. Some (stale_on (decides d) class pair_of (post new))) stays.decider ∙ ap Some remaining ∙ ap (λ s. Some (drop most s)) stale_is;
       }
 
-  pub settled_seen : (old new : Stood Core Decider Call Reply) (said : Ack) → Stays old new
+  pub acknowledged_seen : (old new : Stood Core Decider Call Reply) (said : Ack) → Stays old new
       → said ≡ ack_answer old.keeper.phase old.keeper.manager (older_on (post old)) (length (stale_on (decides old.keeper.decider) class pair_of (post old)))
       → post new ≡ settled_if (post old) (is_done said)
       → new.shown ≡ shown_after old.keeper.phase old.shown (older_on (post old)) (length (stale_on (decides old.keeper.decider) class pair_of (post old)))
       → new.tries ≡ tries_after old.keeper.phase old.tries
       → new.keeper.history ≡ old.keeper.history ++ added_by old.keeper.phase (is_done said)
       → IsAcknowledged (seen old) (seen new) said
-  settled_seen old new said stays answer post_is shown tries history_is = record {
+  acknowledged_seen old new said stays answer post_is shown tries history_is = record {
     same = same_seen old new stays;
     answer = answer ∙ answered old.keeper.phase old.keeper.manager _ _ old.shown new.shown shown;
     tried = tried_where old.keeper.phase (seen old) (seen new) (is_done said) _ _ refl refl refl refl refl shown tries;

@@ -25,7 +25,7 @@ seen_of decides class pair_of state follows plain = record {
 
 -- one and the same manager: the opening, the decider, its number, the last policy number that may be made, the held passes
 -- and the plain manager's state are equal
-pub record IsSameManager {Core Decider Call Reply State : Type 0} (opening state : Core → State) (old new : Stood Core Decider Call Reply) : Type 0 where
+pub record IsSameBesidesChange {Core Decider Call Reply State : Type 0} (opening state : Core → State) (old new : Stood Core Decider Call Reply) : Type 0 where
   pub opened : opening new.keeper.core ≡ opening old.keeper.core
   pub decider : new.keeper.decider ≡ old.keeper.decider
   pub manager : new.keeper.manager ≡ old.keeper.manager

@@ -1,5 +1,5 @@
 -- How a manager on one thread stands: plain state, slots, change of policy and held passes.
-use Rattle.std.specs.Prelude.{ℕ, ◌+◌, ◌-◌, Bool, true, false, List, [], ◌∷◌, length, take, replicate, slice_get, slice_set, Option, Some, None, unwrap_or}
+use Rattle.std.specs.Prelude.{◌≡◌, ℕ, ◌+◌, ◌-◌, Bool, true, false, List, [], ◌∷◌, length, take, replicate, slice_get, slice_set, Option, Some, None, unwrap_or}
 use Rattle.std.specs.FinMap as maps
 use Rattle.access_vectors.specs.Decisions.{Decisions}
 use Rattle.access_vectors.specs.Asking.{counted}
@@ -93,10 +93,6 @@ notified post version =
 abbrev pub stale_on : {State : Type 0} → Decisions → Class → (State → ℕ → Option Pair) → Post State → List ℕ
 stale_on d class pair_of post = stale_slots d class post.phase (pair_of post.state) post.follows
 
--- the same of a keeper, by what its core means
-abbrev pub stale_of : {Core Decider Call Reply State : Type 0} → Decisions → Class → (State → ℕ → Option Pair) → (Core → State) → (Core → Follows) → Kept Core Decider Call Reply → List ℕ
-stale_of d class pair_of state follows kept = stale_slots d class kept.phase (pair_of (state kept.core)) (follows kept.core)
-
 -- after an update of at most so many slots, of which these are stale: the first of them follow the pending number
 abbrev pub updated : {State : Type 0} → Post State → List ℕ → ℕ → Post State
 updated post stale most =
@@ -149,3 +145,19 @@ pub record Stood (Core Decider Call Reply : Type 0) : Type 0 where
 abbrev pub post_of : {Core Decider Call Reply State : Type 0} → (Core → State) → (Core → Follows) → Stood Core Decider Call Reply → Post State
 post_of state follows stood =
     record { state = state stood.keeper.core; follows = follows stood.keeper.core; phase = stood.keeper.phase; held = stood.held }
+
+-- it is the same manager: its opening, its decider, its number and the last policy number that may be made stay
+pub record IsSameManager {Core Decider Call Reply State : Type 0} (opening : Core → State) (old new : Stood Core Decider Call Reply) : Type 0 where
+  pub opened : opening new.keeper.core ≡ opening old.keeper.core
+  pub decider : new.keeper.decider ≡ old.keeper.decider
+  pub manager : new.keeper.manager ≡ old.keeper.manager
+  pub most : new.most ≡ old.most
+
+-- and no change was tried
+pub record IsSameUntried {Core Decider Call Reply State : Type 0} (opening : Core → State) (old new : Stood Core Decider Call Reply) : Type 0 where
+  pub opened : opening new.keeper.core ≡ opening old.keeper.core
+  pub decider : new.keeper.decider ≡ old.keeper.decider
+  pub manager : new.keeper.manager ≡ old.keeper.manager
+  pub most : new.most ≡ old.most
+  pub tries : new.tries ≡ old.tries
+  pub shown : new.shown ≡ old.shown

@@ -4,9 +4,10 @@ use Rattle.access_vectors.specs.Asking.{counted}
 use Rattle.access_vectors.specs.Phases.{number_of, is_pending, noticed, acknowledged}
 use Rattle.access_vectors.specs.Stale.{Follows, now_following, all_following}
 use Rattle.access_vectors.specs.declared.phase.Phase.{Phase}
-use Rattle.manager_history.specs.Kept.{notice_fault, IsRefusal, ack_answer, is_done}
+use Rattle.access_vectors.specs.Notices.{notice_fault, IsRefusal}
+use Rattle.manager_history.specs.Kept.{ack_answer, is_done}
 use Rattle.manager_history.specs.declared.answers.Ack.{Ack}
-use Rattle.manager_history.specs.declared.answers.NotifyFault.{NotifyFault}
+use Rattle.access_vectors.specs.declared.change.NotifyFault.{NotifyFault}
 use Rattle.manager_history.specs.declared.entry.Entry.{Entry}
 use Rattle.manager_history.specs.declared.entry.Entry.TheVariants as entry
 use Rattle.managed.specs.declared.managed.Shown.{Shown}
@@ -63,6 +64,12 @@ pub record IsSame (old new : Seen) : Type 0 where
   pub manager : new.manager ≡ old.manager
   pub most : new.most ≡ old.most
   pub versions : new.versions ≡ old.versions
+
+-- what clients do at a manager: callers' operations at most
+pub record IsServed (old new : Seen) : Type 0 where
+  pub same : IsSame old new
+  pub phase : new.phase ≡ old.phase
+  pub history : IsGrown false old.history new.history []
 
 -- a call that tried nothing
 pub record IsUntried (old new : Seen) : Type 0 where

@@ -1,3 +1,5 @@
+//! The manager on one thread, as the administrator sees it.
+
 use crate::managed::Managed;
 use crate::plain::Plain;
 use access_vectors::Decider;
@@ -9,22 +11,22 @@ use std::sync::Wait;
 impl<'d, C: Core, D: Decider> Managed for Plain<'d, C, D> {
     ghost use Rattle.std.specs.Prelude.{refl};
     ghost use Rattle.std.proofs.Common.{◌∙◌};
-    ghost use Rattle.managed.specs.Administered.{seen_of, IsSameManager};
+    ghost use Rattle.managed.specs.Administered.{seen_of, IsSameBesidesChange};
 
     ghost seen = { seen_of D.decides C.class C.pair_of C.state C.follows };
 
-    ghost same = { IsSameManager C.opening C.state };
+    ghost same = { IsSameBesidesChange C.opening C.state };
 
     fn notify<R: Wait>(&mut self, rt: &R, alloc: Global, ver: u8) -> Result<u32, NotifyFault> {
-        self.notice(alloc, ver)
+        Plain::notify(self, alloc, ver)
     }
 
     fn update<R: Wait>(&mut self, rt: &R, k: u64) -> u64 {
-        self.revise(k)
+        Plain::update(self, k)
     }
 
     fn acknowledge<R: Wait>(&mut self, rt: &R) -> Ack {
-        self.settle()
+        Plain::acknowledge(self)
     }
 
     ghost reflexive = { λ a. record { opened = refl; decider = refl; manager = refl; most = refl; held = refl; state_is = refl } };

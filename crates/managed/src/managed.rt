@@ -1,3 +1,5 @@
+//! What the administrator of a change asks of a manager.
+
 ghost use Rattle.managed.specs.Seen.{Seen, IsNotified, IsUpdated, IsAcknowledged};
 
 use manager_history::{Ack, NotifyFault};

@@ -1,8 +1,11 @@
+//! A manager on one thread: its keeper, and the passes that its clients hold.
+
 ghost use Rattle.std.specs.Prelude.{◌≡◌, ◌+◌, ◌-◌, ◌<◌, ◌≤◌, [], ◌∷◌, ◌++◌, length, take, drop, replicate, min, None, IfOk, IfErr, OnOk, OnErr};
 ghost use Rattle.access_vectors.specs.Asking.{counted};
+ghost use Rattle.access_vectors.specs.Notices.{notice_fault, IsRefusal};
 ghost use Rattle.access_vectors.specs.Phases.{number_of};
 ghost use Rattle.access_vectors.specs.Stale.{now_following};
-ghost use Rattle.manager_history.specs.Kept.{notice_fault, IsRefusal, ack_answer, is_done};
+ghost use Rattle.manager_history.specs.Kept.{ack_answer, is_done, stale_in};
 ghost use Rattle.managed.specs.Posts;
 
 use crate::managed::Shown;
@@ -18,7 +21,6 @@ use std::sync::ledger::{Blank, Ledger};
 #[derive(Drop)]
 pub struct Plain<'d, C: Core, D: Decider> {
     keeper: Keeper<'d, C, D>,
-    decider: &'d D,
     passes: Passes,
     most: u32,
     tries: u64,
@@ -40,10 +42,9 @@ impl<'d, C: Core, D: Decider> Model for Plain<'d, C, D> {
       shown = plain.shown;
     } };
 
-    ghost invariant = { λ plain. (plain.keeper.decider ≡ plain.decider.now)
-        × AreNamed plain.keeper.phase plain.passes
+    ghost invariant = { λ plain. AreNamed plain.keeper.phase plain.passes
         × (number_of plain.keeper.phase ≤ plain.most)
-        × AreVersions (D.decides plain.decider.now).versions plain.keeper.phase };
+        × AreVersions (D.decides plain.keeper.decider).versions plain.keeper.phase };
 }
 
 impl<'d, C: Core, D: Decider> Plain<'d, C, D> {
@@ -63,7 +64,6 @@ impl<'d, C: Core, D: Decider> Plain<'d, C, D> {
     {
         Plain {
             keeper: Keeper::new(alloc, core, manager, decider),
-            decider,
             passes: Passes::new(),
             most,
             tries: 0,
@@ -75,8 +75,7 @@ impl<'d, C: Core, D: Decider> Plain<'d, C, D> {
         }
     }
 
-    /// Does a client's call, under its held pass or else a pass of the newest number. After `Memory` all that contracts see
-    /// of it but its core is as before, and so are the core's state and what its slots follow.
+    /// Does a client's call, under its held pass or else a pass of the newest number. After `Memory` all is as before.
     pub fn call(
         &mut self,
         alloc: Global,
@@ -95,18 +94,12 @@ impl<'d, C: Core, D: Decider> Plain<'d, C, D> {
             let asked = (Posts.answer_on C.plain (D.decides self.old.keeper.decider) post client call).asked in
             IfOk result (λ reply. self.new.keeper.history
             ≡ self.old.keeper.history ++ Entry.Op client mark call (Posts.acting_number post client) asked reply ∷ []) }
-        ensures post_after_memory { OnErr result (Posts.post_of C.state C.follows self.new ≡ Posts.post_of C.state C.follows self.old) }
-        ensures history_after_memory { OnErr result (self.new.keeper.history ≡ self.old.keeper.history) }
-        ensures decider { self.new.keeper.decider ≡ self.old.keeper.decider }
-        ensures manager { self.new.keeper.manager ≡ self.old.keeper.manager }
-        ensures opening { C.opening self.new.keeper.core ≡ C.opening self.old.keeper.core }
-        ensures most { self.new.most ≡ self.old.most }
-        ensures tries { self.new.tries ≡ self.old.tries }
-        ensures shown { self.new.shown ≡ self.old.shown }
+        ensures as_before { OnErr result (self.new ≡ self.old) }
+        ensures same { Posts.IsSameUntried C.opening self.old self.new }
     {
         let number = self.acting(client);
         let version = self.keeper.phase().version_at(number);
-        let mut asker = Plainly::new(self.decider, version);
+        let mut asker = Plainly::new(self.keeper.decider(), version);
         self.keeper
             .call(alloc, client, mark, call, number, &mut asker)
     }
@@ -145,9 +138,7 @@ impl<'d, C: Core, D: Decider> Plain<'d, C, D> {
         requires { client < 64 }
         ensures post { Posts.post_of C.state C.follows self.new ≡ Posts.begun (Posts.post_of C.state C.follows self.old) client }
         ensures keeper { self.new.keeper ≡ self.old.keeper }
-        ensures most { self.new.most ≡ self.old.most }
-        ensures tries { self.new.tries ≡ self.old.tries }
-        ensures shown { self.new.shown ≡ self.old.shown }
+        ensures same { Posts.IsSameUntried C.opening self.old self.new }
     {
         if let None = self.passes.held(client) {
             let number = self.keeper.phase().number();
@@ -160,18 +151,15 @@ impl<'d, C: Core, D: Decider> Plain<'d, C, D> {
         requires { client < 64 }
         ensures post { Posts.post_of C.state C.follows self.new ≡ Posts.ended (Posts.post_of C.state C.follows self.old) client }
         ensures keeper { self.new.keeper ≡ self.old.keeper }
-        ensures most { self.new.most ≡ self.old.most }
-        ensures tries { self.new.tries ≡ self.old.tries }
-        ensures shown { self.new.shown ≡ self.old.shown }
+        ensures same { Posts.IsSameUntried C.opening self.old self.new }
     {
         if let Some(_number) = self.passes.held(client) {
             self.passes.leave(client);
         }
     }
 
-    /// Begins a change to a version, under the next policy number, which it answers. After a refusal all is as before, but
-    /// that after `Memory` this is said of what contracts see besides the core.
-    pub fn notice(&mut self, alloc: Global, ver: u8) -> Result<u32, NotifyFault>
+    /// Begins a change to a version, under the next policy number, which it answers. After a refusal all is as before.
+    pub fn notify(&mut self, alloc: Global, ver: u8) -> Result<u32, NotifyFault>
         ensures refusals { let versions = (D.decides self.old.keeper.decider).versions in
             IfErr result (IsRefusal (notice_fault self.old.keeper.phase versions ver self.old.most)) }
         ensures allowed { let versions = (D.decides self.old.keeper.decider).versions in
@@ -179,42 +167,29 @@ impl<'d, C: Core, D: Decider> Plain<'d, C, D> {
         ensures number { IfOk result (λ number. number ≡ number_of self.old.keeper.phase + 1) }
         ensures post { OnOk result (Posts.post_of C.state C.follows self.new ≡ Posts.notified (Posts.post_of C.state C.follows self.old) ver) }
         ensures added { IfOk result (λ number. self.new.keeper.history ≡ self.old.keeper.history ++ Entry.Notice number ver ∷ []) }
-        ensures post_after_refusal { OnErr result (Posts.post_of C.state C.follows self.new ≡ Posts.post_of C.state C.follows self.old) }
-        ensures history_after_refusal { OnErr result (self.new.keeper.history ≡ self.old.keeper.history) }
-        ensures decider { self.new.keeper.decider ≡ self.old.keeper.decider }
-        ensures manager { self.new.keeper.manager ≡ self.old.keeper.manager }
-        ensures opening { C.opening self.new.keeper.core ≡ C.opening self.old.keeper.core }
-        ensures most { self.new.most ≡ self.old.most }
-        ensures tries { self.new.tries ≡ self.old.tries }
-        ensures shown { self.new.shown ≡ self.old.shown }
+        ensures as_before { OnErr result (self.new ≡ self.old) }
+        ensures same { Posts.IsSameUntried C.opening self.old self.new }
     {
         self.keeper.notify(alloc, ver, self.most)
     }
 
     /// Lets the first `k` stale slots, or all where they are fewer, follow the pending number, and answers how many are left:
     /// 0 where nothing is pending. It takes no memory.
-    pub fn revise(&mut self, k: u64) -> u64
-        ensures left { let post = Posts.post_of C.state C.follows self.old in
-            let stale = Posts.stale_on (D.decides self.old.keeper.decider) C.class C.pair_of post in
+    pub fn update(&mut self, k: u64) -> u64
+        ensures left { let stale = stale_in (D.decides self.old.keeper.decider) C.class C.pair_of C.state C.follows self.old.keeper in
             result ≡ length (drop k stale) }
-        ensures post { let post = Posts.post_of C.state C.follows self.old in
-            let stale = Posts.stale_on (D.decides self.old.keeper.decider) C.class C.pair_of post in
-            Posts.post_of C.state C.follows self.new ≡ Posts.updated post stale k }
-        ensures remaining { let post = Posts.post_of C.state C.follows in
-            let stale = Posts.stale_on (D.decides self.old.keeper.decider) C.class C.pair_of in
-            stale (post self.new) ≡ drop k (stale (post self.old)) }
-        ensures shown { let post = Posts.post_of C.state C.follows self.old in
-            let stale = Posts.stale_on (D.decides self.old.keeper.decider) C.class C.pair_of post in
+        ensures post { let stale = stale_in (D.decides self.old.keeper.decider) C.class C.pair_of C.state C.follows self.old.keeper in
+            Posts.post_of C.state C.follows self.new ≡ Posts.updated (Posts.post_of C.state C.follows self.old) stale k }
+        ensures remaining { let stale = stale_in (D.decides self.old.keeper.decider) C.class C.pair_of C.state C.follows in
+            stale self.new.keeper ≡ drop k (stale self.old.keeper) }
+        ensures shown { let stale = stale_in (D.decides self.old.keeper.decider) C.class C.pair_of C.state C.follows self.old.keeper in
             self.new.shown ≡ record { older = 0; found = length stale; left = length (drop k stale) } }
         ensures tries { self.new.tries ≡ counted self.old.tries }
         ensures history { self.new.keeper.history ≡ self.old.keeper.history }
-        ensures decider { self.new.keeper.decider ≡ self.old.keeper.decider }
-        ensures manager { self.new.keeper.manager ≡ self.old.keeper.manager }
-        ensures opening { C.opening self.new.keeper.core ≡ C.opening self.old.keeper.core }
-        ensures most { self.new.most ≡ self.old.most }
+        ensures same { Posts.IsSameManager C.opening self.old self.new }
     {
-        let found = count_stale(&mut self.keeper);
-        let left = revise_slots(&mut self.keeper, k);
+        let found = self.keeper.left();
+        let left = update_counted::<C, D, Brand>(&mut self.keeper, k, Blank::new(1));
         self.tries = self.tries.saturating_add(1);
         self.shown = Shown {
             older: 0,
@@ -225,26 +200,23 @@ impl<'d, C: Core, D: Decider> Plain<'d, C, D> {
     }
 
     /// Acknowledges the pending number, where no pass below it is held and no slot is stale. It takes no memory.
-    pub fn settle(&mut self) -> Ack
-        ensures answer { let post = Posts.post_of C.state C.follows self.old in
-            let stale = Posts.stale_on (D.decides self.old.keeper.decider) C.class C.pair_of post in
-            result ≡ ack_answer self.old.keeper.phase self.old.keeper.manager (Posts.older_on post) (length stale) }
+    pub fn acknowledge(&mut self) -> Ack
+        ensures answer { let stale = stale_in (D.decides self.old.keeper.decider) C.class C.pair_of C.state C.follows self.old.keeper in
+            let older = Posts.older_on (Posts.post_of C.state C.follows self.old) in
+            result ≡ ack_answer self.old.keeper.phase self.old.keeper.manager older (length stale) }
         ensures post { Posts.post_of C.state C.follows self.new ≡ Posts.settled_if (Posts.post_of C.state C.follows self.old) (is_done result) }
-        ensures shown { let post = Posts.post_of C.state C.follows self.old in
-            let stale = Posts.stale_on (D.decides self.old.keeper.decider) C.class C.pair_of post in
-            self.new.shown ≡ Posts.shown_after self.old.keeper.phase self.old.shown (Posts.older_on post) (length stale) }
+        ensures shown { let stale = stale_in (D.decides self.old.keeper.decider) C.class C.pair_of C.state C.follows self.old.keeper in
+            let older = Posts.older_on (Posts.post_of C.state C.follows self.old) in
+            self.new.shown ≡ Posts.shown_after self.old.keeper.phase self.old.shown older (length stale) }
         ensures tries { self.new.tries ≡ Posts.tries_after self.old.keeper.phase self.old.tries }
         ensures history { self.new.keeper.history ≡ self.old.keeper.history ++ Posts.added_by self.old.keeper.phase (is_done result) }
-        ensures decider { self.new.keeper.decider ≡ self.old.keeper.decider }
-        ensures manager { self.new.keeper.manager ≡ self.old.keeper.manager }
-        ensures opening { C.opening self.new.keeper.core ≡ C.opening self.old.keeper.core }
-        ensures most { self.new.most ≡ self.old.most }
+        ensures same { Posts.IsSameManager C.opening self.old self.new }
     {
         let Phase::Pending { number, .. } = self.keeper.phase() else {
             return Ack::Idle;
         };
         let older = self.passes.older(number);
-        let found = count_stale(&mut self.keeper);
+        let found = self.keeper.left();
         self.tries = self.tries.saturating_add(1);
         self.shown = Shown {
             older,
@@ -255,45 +227,8 @@ impl<'d, C: Core, D: Decider> Plain<'d, C, D> {
     }
 }
 
-/// How many slots of a keeper are stale. An update of no slot answers that, and all else stays.
-fn count_stale<C: Core, D: Decider>(keeper: &mut Keeper<'_, C, D>) -> u64
-    ensures found { result ≡ length (Posts.stale_of (D.decides keeper.old.decider) C.class C.pair_of C.state C.follows keeper.old) }
-    ensures stale { result ≡ length (C.stale keeper.new.core) }
-    ensures follows { C.follows keeper.new.core ≡ C.follows keeper.old.core }
-    ensures state { C.state keeper.new.core ≡ C.state keeper.old.core }
-    ensures history { keeper.new.history ≡ keeper.old.history }
-    ensures phase { keeper.new.phase ≡ keeper.old.phase }
-    ensures decider { keeper.new.decider ≡ keeper.old.decider }
-    ensures manager { keeper.new.manager ≡ keeper.old.manager }
-    ensures opening { C.opening keeper.new.core ≡ C.opening keeper.old.core }
-{
-    revise_slots(keeper, 0)
-}
-
-/// Lets the first `k` stale slots of a keeper follow the pending number, and answers how many are left.
-fn revise_slots<C: Core, D: Decider>(keeper: &mut Keeper<'_, C, D>, k: u64) -> u64
-    ensures left { let stale = Posts.stale_of (D.decides keeper.old.decider) C.class C.pair_of C.state C.follows keeper.old in
-        result ≡ length (drop k stale) }
-    ensures stale { result ≡ length (C.stale keeper.new.core) }
-    ensures remaining { let stale = Posts.stale_of (D.decides keeper.old.decider) C.class C.pair_of C.state C.follows in
-        stale keeper.new ≡ drop k (stale keeper.old) }
-    ensures follows { let stale = Posts.stale_of (D.decides keeper.old.decider) C.class C.pair_of C.state C.follows keeper.old in
-        C.follows keeper.new.core ≡ now_following (take k stale) (number_of keeper.old.phase) (C.follows keeper.old.core) }
-    ensures state { C.state keeper.new.core ≡ C.state keeper.old.core }
-    ensures history { keeper.new.history ≡ keeper.old.history }
-    ensures phase { keeper.new.phase ≡ keeper.old.phase }
-    ensures decider { keeper.new.decider ≡ keeper.old.decider }
-    ensures manager { keeper.new.manager ≡ keeper.old.manager }
-    ensures opening { C.opening keeper.new.core ≡ C.opening keeper.old.core }
-{
-    // The clauses of `entries` say that the keeper's stale slots are those of the definition.
-    let _before = keeper.entries();
-    let left = update_counted::<C, D, Brand>(keeper, k, Blank::new(1));
-    let _after = keeper.entries();
-    left
-}
-
-/// The same, under a ledger: the blank's, which counts the steps, of which there is at most one for each of these slots.
+/// Lets the first `k` stale slots of a keeper follow the pending number under a ledger: the blank's, which counts the steps, of
+/// which there is one for each of these slots. Answers how many are left.
 fn update_counted<C: Core, D: Decider, L: Ledger>(
     keeper: &mut Keeper<'_, C, D>,
     k: u64,
@@ -302,10 +237,12 @@ fn update_counted<C: Core, D: Decider, L: Ledger>(
     requires name { blank.name ≡ L.name }
     requires parts { blank.parts ≡ L.parts }
     requires some { 0 < L.parts }
-    ensures left { result ≡ length (C.stale keeper.new.core) }
-    ensures stale { C.stale keeper.new.core ≡ drop k (C.stale keeper.old.core) }
-    ensures follows { C.follows keeper.new.core
-        ≡ now_following (take k (C.stale keeper.old.core)) (number_of keeper.old.phase) (C.follows keeper.old.core) }
+    ensures left { let stale = stale_in (D.decides keeper.old.decider) C.class C.pair_of C.state C.follows keeper.old in
+        result ≡ length (drop k stale) }
+    ensures remaining { let stale = stale_in (D.decides keeper.old.decider) C.class C.pair_of C.state C.follows in
+        stale keeper.new ≡ drop k (stale keeper.old) }
+    ensures follows { let stale = stale_in (D.decides keeper.old.decider) C.class C.pair_of C.state C.follows keeper.old in
+        C.follows keeper.new.core ≡ now_following (take k stale) (number_of keeper.old.phase) (C.follows keeper.old.core) }
     ensures state { C.state keeper.new.core ≡ C.state keeper.old.core }
     ensures history { keeper.new.history ≡ keeper.old.history }
     ensures phase { keeper.new.phase ≡ keeper.old.phase }

@@ -1,12 +1,12 @@
 -- What a keeper keeps.
-use Rattle.std.specs.Prelude.{◌≡◌, ℕ, ◌<◌, Bool, true, false, ◌==◌, nat_lt, List, length, Option, Some, None, if◌then◌else◌}
+use Rattle.std.specs.Prelude.{◌≡◌, ℕ, ◌<◌, Bool, true, false, nat_lt, List, length, Option, if◌then◌else◌}
 use Rattle.access_vectors.specs.Decisions.{Decisions}
 use Rattle.access_vectors.specs.Phases.{AreVersions}
+use Rattle.access_vectors.specs.Stale.{Follows, Pair, stale_slots}
+use Rattle.access_vectors.specs.declared.class.Class.{Class}
 use Rattle.access_vectors.specs.declared.phase.Phase.{Phase}
 use Rattle.access_vectors.specs.declared.phase.Phase.TheVariants.{Settled, Pending}
 use Rattle.manager_history.specs.declared.entry.Entry.{Entry}
-use Rattle.manager_history.specs.declared.answers.NotifyFault.{NotifyFault}
-use Rattle.manager_history.specs.declared.answers.NotifyFault.TheVariants as faults
 use Rattle.manager_history.specs.declared.answers.Ack.{Ack}
 use Rattle.manager_history.specs.declared.answers.Ack.TheVariants as acks
 use Rattle.manager_history.specs.Answers.{Manager}
@@ -19,6 +19,11 @@ pub record Kept (Core Decider Call Reply : Type 0) : Type 0 where
   pub manager : ℕ
   pub phase : Phase
   pub history : List (Entry Call Reply)
+
+-- the slots of a keeper that its pending change leaves stale, by what its core means, least client and then least slot first
+abbrev pub stale_in : {Core Decider Call Reply State : Type 0} → Decisions → Class → (State → ℕ → Option Pair)
+    → (Core → State) → (Core → Follows) → Kept Core Decider Call Reply → List ℕ
+stale_in d class pair_of state follows kept = stale_slots d class kept.phase (pair_of (state kept.core)) (follows kept.core)
 
 -- while a change is pending there is room for its acknowledgement
 abbrev pub HasPlace : Phase → ℕ → ℕ → Type 0
@@ -34,17 +39,6 @@ pub record IsKept {Call Reply State : Type 0} (d : Decisions) (plain : Manager C
   pub lawful : IsLawful plain formed d (start_of opening) history
   pub versions : AreVersions d.versions phase
   pub spare : HasPlace phase (length history) room
-
--- why a notice is refused, in the order of the tests
-abbrev pub notice_fault : Phase → ℕ → ℕ → ℕ → Option NotifyFault
-notice_fault (Pending pending old new) versions version most = Some (faults.Pending pending)
-notice_fault (Settled settled old) versions version most =
-    if nat_lt version versions then (if settled == most then Some faults.Spent else None) else Some faults.NoVersion
-
--- a refusal is that fault, and where there is none it is want of memory
-abbrev pub IsRefusal : Option NotifyFault → NotifyFault → Type 0
-IsRefusal None fault = fault ≡ faults.Memory
-IsRefusal (Some cause) fault = fault ≡ cause
 
 -- what an acknowledgement answers, by the passes below the pending number and the stale slots
 abbrev pub ack_answer : Phase → ℕ → ℕ → ℕ → Ack

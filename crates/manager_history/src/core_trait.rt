@@ -1,3 +1,5 @@
+//! What a manager of objects is: its calls, what a change of policy asks of it, and its plain manager, which is its meaning.
+
 ghost use Rattle.std.specs.Prelude.{◌≡◌, ℕ, ◌+◌, ◌-◌, ◌<◌, true, false, min};
 ghost use Rattle.std.specs.Prelude.{List, [], Option, length, take, drop, is_some, IfOk, OnOk, OnErr, if◌then◌else◌};
 ghost use Rattle.std.specs.FinMap as maps;
@@ -68,7 +70,7 @@ pub trait Core {
     ghost fits: { Decisions → Self → Type 0 };
 
     /// Does a caller's call under a policy number. The two replies are equal, one for the history and one for the
-    /// caller. After `Memory` state, slots and change are as before; the questions are then given up.
+    /// caller. After `Memory` all is as before; the questions are then given up.
     fn call<A: Asker>(
         &mut self,
         alloc: Global,
@@ -98,9 +100,7 @@ pub trait Core {
         ensures keys { OnOk result (A.keys asker.new
             ≡ (if is_use_following (use_of caller call.now) (follows self.old) number
             then A.keys asker.old else with_keys_of (A.keys asker.old) asked.new)) }
-        ensures state_after_memory { OnErr result (state self.new ≡ state self.old) }
-        ensures follows_after_memory { OnErr result (follows self.new ≡ follows self.old) }
-        ensures stale_after_memory { OnErr result (stale self.new ≡ stale self.old) }
+        ensures as_before { OnErr result (self.new ≡ self.old) }
         ensures phase { phase self.new ≡ phase self.old }
         ensures opening { opening self.new ≡ opening self.old }
         ensures fits { fits (A.decides asker.old) self.new }
@@ -125,8 +125,7 @@ pub trait Core {
         requires new_version { new < (D.decides decider.now).versions }
         ensures found { IfOk result (λ found. found ≡ length (stale self.new)) }
         ensures pending { OnOk result (phase self.new ≡ Phase.Pending number old new) }
-        ensures phase_after_memory { OnErr result (phase self.new ≡ phase self.old) }
-        ensures stale_after_memory { OnErr result (stale self.new ≡ stale self.old) }
+        ensures as_before { OnErr result (self.new ≡ self.old) }
         ensures state { state self.new ≡ state self.old }
         ensures follows { follows self.new ≡ follows self.old }
         ensures opening { opening self.new ≡ opening self.old }

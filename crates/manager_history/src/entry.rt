@@ -1,3 +1,5 @@
+//! Entries of a manager's history.
+
 use crate::core_trait::Core;
 use access_vectors::Questions;
 

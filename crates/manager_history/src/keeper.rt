@@ -1,9 +1,11 @@
+//! The keeper: a core with its history, which is lawful, and whose replay is the core's state.
+
 ghost use Rattle.std.specs.Prelude.{◌≡◌, ◌+◌, ◌<◌, ◌≤◌, [], ◌∷◌, ◌++◌, vec_len, vec_capacity};
 
-use crate::answers::{Ack, NotifyFault, Receipt};
+use crate::answers::Ack;
 use crate::core_trait::Core;
 use crate::entry::{Entry, History};
-use access_vectors::{Asker, Decider, Phase, Questions, Steps};
+use access_vectors::{Asker, Decider, NotifyFault, Phase, Questions, Receipt, Steps};
 use flask_sid::Memory;
 use std::alloc::Global;
 use std::marker::Model;
@@ -53,14 +55,15 @@ impl<'d, C: Core, D: Decider> Model for Keeper<'d, C, D> {
 }
 
 impl<'d, C: Core, D: Decider> Keeper<'d, C, D> {
-    ghost use Rattle.std.specs.Prelude.{◌≡◌, ◌+◌, ◌≤◌, ◌⊎◌, true, false, min, [], ◌∷◌, ◌++◌, length, take, drop};
+    ghost use Rattle.std.specs.Prelude.{◌≡◌, ◌+◌, ◌≤◌, true, false, min, [], ◌∷◌, ◌++◌, length, take, drop};
     ghost use Rattle.std.specs.Prelude.{None, is_some, IsTrue, IfOk, IfErr, OnOk, OnErr, if◌then◌else◌};
     ghost use Rattle.access_vectors.specs.Asking.{with_keys_of};
     ghost use Rattle.access_vectors.specs.Phases.{number_of, version_at, MayName, noticed, is_pending, acknowledged};
     ghost use Rattle.manager_history.specs.Histories.{moment, answer_at, start_of, replay, IsLawful};
     ghost use Rattle.manager_history.specs.Laws.{RevocationHolds, DenialsAreJust};
-    ghost use Rattle.access_vectors.specs.Stale.{AreNamed, stale_slots, now_following, all_following, is_use_following};
-    ghost use Rattle.manager_history.specs.Kept.{notice_fault, IsRefusal, ack_answer, is_done};
+    ghost use Rattle.access_vectors.specs.Stale.{AreNamed, now_following, all_following, is_use_following};
+    ghost use Rattle.access_vectors.specs.Notices.{notice_fault, IsRefusal};
+    ghost use Rattle.manager_history.specs.Kept.{ack_answer, is_done, stale_in};
 
     /// A core with an empty history, settled at number 0 with version 0. It takes no memory.
     pub fn new(alloc: Global, core: C, manager: u8, decider: &'d D) -> Keeper<'d, C, D>
@@ -88,7 +91,7 @@ impl<'d, C: Core, D: Decider> Keeper<'d, C, D> {
     }
 
     /// Does a caller's call under a policy number, and adds it to the history as one operation. `mark` is the caller's
-    /// own number of the call. After `Memory` history and state are as before.
+    /// own number of the call. After `Memory` the keeper is as before.
     pub fn call<A: Asker>(
         &mut self,
         alloc: Global,
@@ -119,10 +122,7 @@ impl<'d, C: Core, D: Decider> Keeper<'d, C, D> {
             let asked = (answer_at C.plain (D.decides self.old.decider) at caller call number).asked in
             OnOk result (A.keys asker.new ≡ (if is_use_following (C.use_of caller call) (C.follows self.old.core) number
             then A.keys asker.old else with_keys_of (A.keys asker.old) asked)) }
-        ensures history_after_memory { OnErr result (self.new.history ≡ self.old.history) }
-        ensures state_after_memory { OnErr result (C.state self.new.core ≡ C.state self.old.core) }
-        ensures follows_after_memory { OnErr result (C.follows self.new.core ≡ C.follows self.old.core) }
-        ensures stale_after_memory { OnErr result (C.stale self.new.core ≡ C.stale self.old.core) }
+        ensures as_before { OnErr result (self.new ≡ self.old) }
         ensures phase { self.new.phase ≡ self.old.phase }
         ensures decider { self.new.decider ≡ self.old.decider }
         ensures manager { self.new.manager ≡ self.old.manager }
@@ -158,10 +158,7 @@ impl<'d, C: Core, D: Decider> Keeper<'d, C, D> {
         ensures number { IfOk result (λ number. number ≡ number_of self.old.phase + 1) }
         ensures added { IfOk result (λ number. self.new.history ≡ self.old.history ++ Entry.Notice number ver ∷ []) }
         ensures phase { IfOk result (λ number. self.new.phase ≡ noticed self.old.phase number ver) }
-        ensures as_before { IfErr result (λ fault. (fault ≡ NotifyFault.Memory) ⊎ (self.new ≡ self.old)) }
-        ensures history_after_refusal { OnErr result (self.new.history ≡ self.old.history) }
-        ensures phase_after_refusal { OnErr result (self.new.phase ≡ self.old.phase) }
-        ensures stale_after_refusal { OnErr result (C.stale self.new.core ≡ C.stale self.old.core) }
+        ensures as_before { OnErr result (self.new ≡ self.old) }
         ensures state { C.state self.new.core ≡ C.state self.old.core }
         ensures follows { C.follows self.new.core ≡ C.follows self.old.core }
         ensures decider { self.new.decider ≡ self.old.decider }
@@ -203,6 +200,8 @@ impl<'d, C: Core, D: Decider> Keeper<'d, C, D> {
     pub fn update<L: Ledger>(&mut self, k: u64, steps: &mut Steps<L>) -> u64
         ensures left { result ≡ length (C.stale self.new.core) }
         ensures stale { C.stale self.new.core ≡ drop k (C.stale self.old.core) }
+        ensures defined { let stale = stale_in (D.decides self.old.decider) C.class C.pair_of C.state C.follows in
+            (C.stale self.old.core ≡ stale self.old) × (C.stale self.new.core ≡ stale self.new) }
         ensures follows { let revised = take k (C.stale self.old.core) in
             C.follows self.new.core ≡ now_following revised (number_of self.old.phase) (C.follows self.old.core) }
         ensures idle { is_pending self.old.phase ≡ false → result ≡ 0 }
@@ -266,6 +265,28 @@ impl<'d, C: Core, D: Decider> Keeper<'d, C, D> {
         self.phase
     }
 
+    /// The decider, under which the history is lawful.
+    pub fn decider(&self) -> &'d D
+        ensures { result.now ≡ self.now.decider }
+    {
+        self.decider
+    }
+
+    /// The core.
+    pub fn core(&self) -> &C
+        ensures { result.now ≡ self.now.core }
+    {
+        &self.core
+    }
+
+    /// How many slots are stale: those of the definition.
+    pub fn left(&self) -> u64
+        ensures left { result ≡ length (C.stale self.now.core) }
+        ensures defined { C.stale self.now.core ≡ stale_in (D.decides self.now.decider) C.class C.pair_of C.state C.follows self.now }
+    {
+        self.core.left()
+    }
+
     /// The history, oldest entry first. It is lawful from the core's opening, state and phase are the replay of it,
     /// revocation holds in it, and each denial in it is just. The core's stale slots are those of the definition, and every
     /// used slot follows a policy number that may be named: the settled one where nothing is pending.
@@ -279,9 +300,7 @@ impl<'d, C: Core, D: Decider> Keeper<'d, C, D> {
         ensures revocation { RevocationHolds (D.decides self.now.decider) (Phase.Settled 0 0) self.now.history }
         ensures denials { let d = D.decides self.now.decider in
             DenialsAreJust C.denial_of d (Phase.Settled 0 0) self.now.history }
-        ensures stale { let core = self.now.core in
-            C.stale core ≡ stale_slots (D.decides self.now.decider) C.class self.now.phase
-            (C.pair_of (C.state core)) (C.follows core) }
+        ensures stale { C.stale self.now.core ≡ stale_in (D.decides self.now.decider) C.class C.pair_of C.state C.follows self.now }
         ensures follows { AreNamed self.now.phase (C.follows self.now.core) }
     {
         self.entries.as_slice()

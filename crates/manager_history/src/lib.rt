@@ -11,7 +11,8 @@ mod entry;
 mod keeper;
 mod passes;
 
-pub use answers::{Ack, NotifyFault, Receipt};
+pub use access_vectors::{NotifyFault, Receipt};
+pub use answers::Ack;
 pub use core_trait::Core;
 pub use entry::{Entry, History};
 pub use keeper::Keeper;

@@ -1,3 +1,5 @@
+//! Plain passes: which policy number each caller acts under while it holds one.
+
 ghost use Rattle.std.specs.Prelude.{◌≡◌, ◌<◌, None, Some, replicate, slice_set, IsNone, IsSome};
 ghost use Rattle.manager_history.specs.Passing.{pass_of, older_count};
 

@@ -1,14 +1,14 @@
 -- Policy numbers, and the receipts of managers for the one that is proposed.
-use Rattle.std.specs.Prelude.{ℕ, ◌+◌, Bool, true, false, ◌&&◌, ◌==◌, nat_lt, List, take, replicate, slice_get, slice_set, Option, Some, None, option_map, unwrap_or, Result, Ok, Err, if◌then◌else◌, refl}
+use Rattle.std.specs.Prelude.{ℕ, ◌+◌, Bool, true, false, ◌&&◌, ◌==◌, nat_lt, List, take, replicate, slice_get, slice_set, Option, Some, None, unwrap_or, Result, Ok, Err, if◌then◌else◌, refl}
 use Rattle.std.specs.List.{list_all}
 use Rattle.std.specs.Coded.{Coded, code_by, coded×, coded_list, coded_ℕ, coded_bool}
-use Rattle.access_vectors.specs.Phases.{noticed, acknowledged}
+use Rattle.access_vectors.specs.Phases.{number_of, noticed, acknowledged}
 use Rattle.access_vectors.specs.contracts.phase.Phase as phase_type
 use Rattle.access_vectors.specs.declared.phase.Phase.{Phase}
 use Rattle.access_vectors.specs.declared.phase.Phase.TheVariants.{Settled, Pending}
-use Rattle.security_server.specs.declared.answers.Receipt.{Receipt}
-use Rattle.security_server.specs.declared.answers.ProposeFault.{ProposeFault}
-use Rattle.security_server.specs.declared.answers.ProposeFault.TheVariants as proposing
+use Rattle.access_vectors.specs.Notices.{notice_fault}
+use Rattle.access_vectors.specs.declared.change.NotifyFault.{NotifyFault}
+use Rattle.access_vectors.specs.declared.change.Receipt.{Receipt}
 use Rattle.security_server.specs.declared.answers.ReceiptFault.{ReceiptFault}
 use Rattle.security_server.specs.declared.answers.ReceiptFault.TheVariants as receiving
 
@@ -38,13 +38,12 @@ opened decider managers most =
     record { decider = decider; managers = managers; most = most; phase = Settled 0 0; receipts = no_receipts }
 
 -- what a proposal answers: the next number, or why it is refused, in the order of the tests
-abbrev pub proposal_on : Phase → ℕ → ℕ → ℕ → Result ℕ ProposeFault
-proposal_on (Pending pending old new) versions most version = Err (proposing.Pending pending)
-proposal_on (Settled settled old) versions most version =
-    if nat_lt version versions then (if settled == most then Err proposing.Spent else Ok (settled + 1)) else Err proposing.NoVersion
+abbrev pub next_unless : Option NotifyFault → ℕ → Result ℕ NotifyFault
+next_unless None settled = Ok (settled + 1)
+next_unless (Some fault) settled = Err fault
 
-abbrev pub proposal : {Decider : Type 0} → ℕ → Kept Decider → ℕ → Result ℕ ProposeFault
-proposal versions kept version = proposal_on kept.phase versions kept.most version
+abbrev pub proposal : {Decider : Type 0} → ℕ → Kept Decider → ℕ → Result ℕ NotifyFault
+proposal versions kept version = next_unless (notice_fault kept.phase versions version kept.most) (number_of kept.phase)
 
 -- a version is proposed under a number
 abbrev pub proposed : {Decider : Type 0} → Kept Decider → ℕ → ℕ → Kept Decider

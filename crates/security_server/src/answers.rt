@@ -1,18 +1,4 @@
-/// That a manager has acknowledged a policy number.
-#[derive(Clone, Copy, Debug, PartialEq, Eq)]
-pub struct Receipt {
-    pub manager: u8,
-    pub number: u32,
-}
-
-/// Why a version is not proposed: number `Pending` is not complete yet, the decider has no such version, or the policy
-/// numbers are spent.
-#[derive(Clone, Copy, Debug, PartialEq, Eq)]
-pub enum ProposeFault {
-    Pending(u32),
-    NoVersion,
-    Spent,
-}
+//! What the server answers.
 
 /// Why a receipt is not taken.
 #[derive(Clone, Copy, Debug, PartialEq, Eq)]

@@ -5,5 +5,6 @@
 mod answers;
 mod server;
 
-pub use answers::{ProposeFault, Receipt, ReceiptFault};
+pub use access_vectors::{NotifyFault as ProposeFault, Receipt};
+pub use answers::ReceiptFault;
 pub use server::Server;

@@ -1,8 +1,11 @@
-ghost use Rattle.std.specs.Prelude.{◌≡◌, ◌<◌, ◌≤◌, IsTrue, IfErr, IfOk, OnErr, OnOk, None, Some};
+//! The server: a decider, the policy numbers, and the receipts for the number that is proposed.
+
+ghost use Rattle.std.specs.Prelude.{◌≡◌, ◌<◌, ◌≤◌, false, IsTrue, IfErr, IfOk, OnErr, OnOk, None, Some};
+ghost use Rattle.access_vectors.specs.Phases.{is_pending};
 ghost use Rattle.security_server.specs.Numbering;
 
-use crate::answers::{ProposeFault, Receipt, ReceiptFault};
-use access_vectors::{Class, Decider, Phase, Vector};
+use crate::answers::ReceiptFault;
+use access_vectors::{Class, Decider, NotifyFault, Phase, Receipt, Vector};
 use flask_sid::Sid;
 use std::marker::Model;
 
@@ -21,9 +24,9 @@ pub struct Server<'d, D: Decider> {
 }
 
 impl<'d, D: Decider> Model for Server<'d, D> {
-    ghost use Rattle.std.specs.Prelude.{◌≤◌, ◌<◌};
-    ghost use Rattle.access_vectors.specs.Phases.{number_of, AreVersions};
-    ghost use Rattle.security_server.specs.Numbering.{Kept, kept_code};
+    ghost use Rattle.std.specs.Prelude.{◌≡◌, ◌≤◌, ◌<◌, false};
+    ghost use Rattle.access_vectors.specs.Phases.{number_of, is_pending, AreVersions};
+    ghost use Rattle.security_server.specs.Numbering.{Kept, kept_code, no_receipts};
 
     ghost Value = { Kept D };
 
@@ -40,7 +43,8 @@ impl<'d, D: Decider> Model for Server<'d, D> {
     ghost invariant = { λ server. (server.managers ≤ 16)
         × (server.most ≤ 1048575)
         × (number_of server.phase ≤ server.most)
-        × AreVersions (D.decides server.decider.now).versions server.phase };
+        × AreVersions (D.decides server.decider.now).versions server.phase
+        × (is_pending server.phase ≡ false → server.receipts ≡ no_receipts) };
 }
 
 impl<'d, D: Decider> Server<'d, D> {
@@ -97,21 +101,21 @@ impl<'d, D: Decider> Server<'d, D> {
 
     /// Proposes a version under the next policy number, and answers that number. Refused, and all is as before: `Pending`
     /// exactly where a number is proposed and not complete; else `NoVersion` exactly where the decider has no such version;
-    /// else `Spent` exactly where the settled number is the last.
-    pub fn propose(&mut self, ver: u16) -> Result<u32, ProposeFault>
+    /// else `Spent` exactly where the settled number is the last. `Memory` never comes.
+    pub fn propose(&mut self, ver: u16) -> Result<u32, NotifyFault>
         ensures answer { result ≡ Numbering.proposal (D.decides self.old.decider).versions self.old ver }
         ensures proposed { IfOk result (λ number. self.new ≡ Numbering.proposed self.old number ver) }
         ensures as_before { OnErr result (self.new ≡ self.old) }
     {
         let number = match self.phase {
-            Phase::Pending { number, .. } => return Err(ProposeFault::Pending(number)),
+            Phase::Pending { number, .. } => return Err(NotifyFault::Pending(number)),
             Phase::Settled { number, .. } => number,
         };
         if ver >= self.decider.versions() {
-            return Err(ProposeFault::NoVersion);
+            return Err(NotifyFault::NoVersion);
         }
         if number == self.most {
-            return Err(ProposeFault::Spent);
+            return Err(NotifyFault::Spent);
         }
         self.phase = Phase::Pending {
             number: number + 1,
@@ -183,9 +187,10 @@ impl<'d, D: Decider> Server<'d, D> {
         }
     }
 
-    /// Whether the receipt of a manager for the pending number is in.
+    /// Whether the receipt of a manager for the pending number is in. None is in where none is pending.
     pub fn received(&self, manager: u8) -> bool
-        ensures { result ≡ Numbering.is_in self.now.receipts manager }
+        ensures receipt { result ≡ Numbering.is_in self.now.receipts manager }
+        ensures none { is_pending self.now.phase ≡ false → result ≡ false }
     {
         self.receipts
             .as_slice()

@@ -1,1 +1,5 @@
-pub mod ChangeLemmas
+pub mod OneLemmas
+pub mod SessionLemmas
+pub mod AdminLemmas
+pub mod ThreeLemmas
+pub mod UpdateLemmas

@@ -1,29 +1,39 @@
--- The three managers of a session on one thread: where they stand together, and what each line does to that.
-use Rattle.std.specs.Prelude.{ℕ, ◌+◌, Bool, true, false, ◌||◌, ◌&&◌, not, List, length, take, drop, Option, Some, None, option_map, if◌then◌else◌}
-use Rattle.std.specs.Option.{option_or}
+-- Where a session stands: its three managers and the counts of its summary, and what each line does to that.
+use Rattle.std.specs.Prelude.{ℕ, ◌+◌, Bool, true, false, ◌||◌, ◌&&◌, not, List, [], ◌∷◌, length, take, drop, Option, Some, None, option_map, if◌then◌else◌}
+use Rattle.std.specs.List.{list_all}
 use Rattle.access_vectors.specs.Decisions.{Decisions}
 use Rattle.access_vectors.specs.Phases.{number_of, is_pending}
 use Rattle.access_vectors.specs.declared.class.Class.TheVariants as class
 use Rattle.access_vectors.specs.declared.phase.Phase.{Phase}
-use Rattle.manager_history.specs.Kept.{notice_fault, ack_answer, is_done}
+use Rattle.access_vectors.specs.Notices.{notice_fault}
+use Rattle.manager_history.specs.Kept.{ack_answer, is_done}
 use Rattle.manager_history.specs.declared.answers.Ack.{Ack}
 use Rattle.manager_history.specs.declared.answers.Ack.TheVariants as acks
-use Rattle.manager_history.specs.declared.answers.NotifyFault.{NotifyFault}
-use Rattle.manager_history.specs.declared.answers.NotifyFault.TheVariants as faults
+use Rattle.access_vectors.specs.declared.change.NotifyFault.{NotifyFault}
+use Rattle.access_vectors.specs.declared.change.NotifyFault.TheVariants as faults
+use Rattle.manager_history.specs.Answers.{Denial}
 use Rattle.managed.specs.Posts as posts
 use Rattle.managed.specs.Posts.{Post}
 use Rattle.file_calls.specs.Plain as file
 use Rattle.file_calls.specs.States as file_states
-use Rattle.file_calls.specs.States.{FileState, FileAnswer}
-use Rattle.file_calls.specs.declared.call.FileCall.{FileCall}
+use Rattle.file_calls.specs.States.{FileState}
 use Rattle.process_calls.specs.Plain as process
 use Rattle.process_calls.specs.States as process_states
-use Rattle.process_calls.specs.States.{ProcessState, ProcessAnswer}
-use Rattle.process_calls.specs.declared.call.ProcessCall.{ProcessCall}
+use Rattle.process_calls.specs.States.{ProcessState}
 use Rattle.port_calls.specs.Plain as port
 use Rattle.port_calls.specs.States as port_states
-use Rattle.port_calls.specs.States.{PortState, PortAnswer}
-use Rattle.port_calls.specs.declared.call.PortCall.{PortCall}
+use Rattle.port_calls.specs.States.{PortState}
+use Rattle.change_protocol.specs.Changes.{is_kept}
+use Rattle.change_protocol.specs.declared.answers.AckAll.{AckAll}
+use Rattle.change_protocol.specs.declared.answers.AckAll.TheVariants as acking
+use Rattle.change_protocol.specs.declared.answers.Said.{Said}
+use Rattle.change_protocol.specs.declared.answers.Said.TheVariants as saying
+use Rattle.session_forms.specs.declared.run_forms.Manager.{Manager}
+use Rattle.session_forms.specs.declared.run_forms.Manager.TheVariants as manager
+use Rattle.session_desk.specs.One.{Place, Files, Processes, Ports, Told, told, denial_of, after_call, after_begin, after_end, acting}
+use Rattle.session_desk.specs.declared.acting.Call.{Call}
+use Rattle.session_desk.specs.declared.acting.Call.TheVariants as call
+use Rattle.session_desk.specs.declared.acting.Reply.TheVariants as reply
 use Rattle.session_desk.specs.declared.opening.Openings.{Openings}
 
 -- where a run stands: each manager, and the counts of the summary
@@ -55,70 +65,61 @@ abbrev pub counted_denial : {A : Type 0} → Option A → ℕ → ℕ
 counted_denial None denied = denied
 counted_denial (Some denial) denied = denied + 1
 
--- the plain managers' answers to a client's call
-abbrev pub file_answer : Decisions → Day → ℕ → FileCall → FileAnswer
-file_answer d day client call = posts.answer_on file.answer d day.files client call
-
-abbrev pub process_answer : Decisions → Day → ℕ → ProcessCall → ProcessAnswer
-process_answer d day client call = posts.answer_on process.answer d day.processes client call
-
-abbrev pub port_answer : Decisions → Day → ℕ → PortCall → PortAnswer
-port_answer d day client call = posts.answer_on port.answer d day.ports client call
-
--- after a client's call of each manager, and its answer
-abbrev pub file_called : Decisions → Day → ℕ → FileCall → FileAnswer → Day
-file_called d day client call answer = record {
-  files = posts.called file.followed d day.files client call answer;
-  processes = day.processes;
-  ports = day.ports;
-  calls = day.calls + 1;
-  denied = counted_denial (file.denial_of answer.reply) day.denied;
-  changes = day.changes;
-}
-
-abbrev pub process_called : Decisions → Day → ℕ → ProcessCall → ProcessAnswer → Day
-process_called d day client call answer = record {
-  files = day.files;
-  processes = posts.called process.followed d day.processes client call answer;
-  ports = day.ports;
-  calls = day.calls + 1;
-  denied = counted_denial (process.denial_of answer.reply) day.denied;
-  changes = day.changes;
-}
-
-abbrev pub port_called : Decisions → Day → ℕ → PortCall → PortAnswer → Day
-port_called d day client call answer = record {
-  files = day.files;
-  processes = day.processes;
-  ports = posts.called port.followed d day.ports client call answer;
-  calls = day.calls + 1;
-  denied = counted_denial (port.denial_of answer.reply) day.denied;
-  changes = day.changes;
-}
+-- where a manager of the session stands
+abbrev pub place_in : Day → Manager → Place
+place_in day manager.File = Files day.files
+place_in day manager.Process = Processes day.processes
+place_in day manager.Port = Ports day.ports
 
 -- the same with other places for the managers
 abbrev pub with_posts : Day → Post FileState → Post ProcessState → Post PortState → Day
 with_posts day files processes ports =
     record { files = files; processes = processes; ports = ports; calls = day.calls; denied = day.denied; changes = day.changes }
 
+-- the same with another place for one of them
+abbrev pub day_with : Day → Place → Day
+day_with day (Files post) = with_posts day post day.processes day.ports
+day_with day (Processes post) = with_posts day day.files post day.ports
+day_with day (Ports post) = with_posts day day.files day.processes post
+
+-- the manager that a call is of
+abbrev pub manager_of : Call → Manager
+manager_of (call.File asks) = manager.File
+manager_of (call.Process asks) = manager.Process
+manager_of (call.Port asks) = manager.Port
+
+-- what a client's call gets of its plain manager
+abbrev pub told_to : Decisions → Day → ℕ → Call → Told
+told_to d day client (call.File asks) = told reply.File (posts.answer_on file.answer d day.files client asks)
+told_to d day client (call.Process asks) = told reply.Process (posts.answer_on process.answer d day.processes client asks)
+told_to d day client (call.Port asks) = told reply.Port (posts.answer_on port.answer d day.ports client asks)
+
+-- one call more, which is denied where its reply is a denial
+abbrev pub counted_call : Option Denial → Day → Day
+counted_call denial day = record {
+  files = day.files;
+  processes = day.processes;
+  ports = day.ports;
+  calls = day.calls + 1;
+  denied = counted_denial denial day.denied;
+  changes = day.changes;
+}
+
+-- after a client's call
+abbrev pub day_called : Decisions → Day → ℕ → Call → Day
+day_called d day client asks =
+    counted_call (denial_of (told_to d day client asks).reply) (day_with day (after_call d (place_in day (manager_of asks)) client asks))
+
+-- the policy number under which a client acts on a manager
+abbrev pub acting_on : Day → ℕ → Manager → ℕ
+acting_on day client of = acting (place_in day of) client
+
 -- after a client took a pass of a manager, and after it gave its pass back
-abbrev pub file_begun : Day → ℕ → Day
-file_begun day client = with_posts day (posts.begun day.files client) day.processes day.ports
+abbrev pub day_begun : Day → ℕ → Manager → Day
+day_begun day client of = day_with day (after_begin client (place_in day of))
 
-abbrev pub process_begun : Day → ℕ → Day
-process_begun day client = with_posts day day.files (posts.begun day.processes client) day.ports
-
-abbrev pub port_begun : Day → ℕ → Day
-port_begun day client = with_posts day day.files day.processes (posts.begun day.ports client)
-
-abbrev pub file_ended : Day → ℕ → Day
-file_ended day client = with_posts day (posts.ended day.files client) day.processes day.ports
-
-abbrev pub process_ended : Day → ℕ → Day
-process_ended day client = with_posts day day.files (posts.ended day.processes client) day.ports
-
-abbrev pub port_ended : Day → ℕ → Day
-port_ended day client = with_posts day day.files day.processes (posts.ended day.ports client)
+abbrev pub day_ended : Day → ℕ → Manager → Day
+day_ended day client of = day_with day (after_end client (place_in day of))
 
 -- some manager has not acknowledged the change that it has its notice of, by where their changes stand
 abbrev pub pending_at : Phase → Phase → Phase → Bool
@@ -155,11 +156,16 @@ day_updated d day most =
     with_posts day (posts.updated day.files (stale_files d day) most) (posts.updated day.processes (stale_processes d day) most)
     (posts.updated day.ports (stale_ports d day) most)
 
--- how the acknowledgement of a manager goes, by its stale slots; a manager that has acknowledged the change is idle
-abbrev pub ack_on : {State : Type 0} → Post State → ℕ → List ℕ → Ack
-ack_on post manager stale = ack_answer post.phase manager (posts.older_on post) (length stale)
+-- how many slots of each manager that leaves stale
+abbrev pub left_on : Decisions → Day → ℕ → List ℕ
+left_on d day most =
+    length (drop most (stale_files d day)) ∷ length (drop most (stale_processes d day)) ∷ length (drop most (stale_ports d day)) ∷ []
 
--- and of each
+-- what a manager says to the question whether it acknowledges, by its stale slots: one that has acknowledged the change keeps
+-- saying so
+abbrev pub ack_on : {State : Type 0} → Post State → ℕ → List ℕ → Ack
+ack_on post number stale = ack_answer post.phase number (posts.older_on post) (length stale)
+
 abbrev pub file_ack : Decisions → Day → Ack
 file_ack d day = ack_on day.files 0 (stale_files d day)
 
@@ -169,15 +175,24 @@ process_ack d day = ack_on day.processes 1 (stale_processes d day)
 abbrev pub port_ack : Decisions → Day → Ack
 port_ack d day = ack_on day.ports 2 (stale_ports d day)
 
--- a manager keeps a change back: older passes are held, or slots are stale
-abbrev pub keeps_back : Ack → Bool
-keeps_back (acks.Busy older) = true
-keeps_back (acks.Behind left) = true
-keeps_back other = false
+abbrev pub said_of : Ack → Said
+said_of (acks.Busy older) = saying.Busy older
+said_of (acks.Behind left) = saying.Behind left
+said_of other = saying.Kept
 
--- no manager does, while a change is pending: then it is complete
-abbrev pub is_complete : Bool → Ack → Ack → Ack → Bool
-is_complete changing files processes ports = changing && not (keeps_back files || keeps_back processes || keeps_back ports)
+-- what the three say
+abbrev pub all_said : Decisions → Day → List Said
+all_said d day = said_of (file_ack d day) ∷ said_of (process_ack d day) ∷ said_of (port_ack d day) ∷ []
+
+-- how the change stands then: none is pending, it is complete, or a manager keeps it back
+abbrev pub ack_all_of : Decisions → Day → AckAll
+ack_all_of d day =
+    if is_changing day then (if list_all is_kept (all_said d day) then acking.Complete (number_of day.files.phase) else acking.Waiting)
+    else acking.Idle
+
+abbrev pub is_complete : AckAll → Bool
+is_complete (acking.Complete number) = true
+is_complete other = false
 
 -- one more where it is
 abbrev pub counted_change : Bool → ℕ → ℕ
@@ -192,5 +207,5 @@ day_acknowledged d day = record {
   ports = posts.settled_if day.ports (is_done (port_ack d day));
   calls = day.calls;
   denied = day.denied;
-  changes = counted_change (is_complete (is_changing day) (file_ack d day) (process_ack d day) (port_ack d day)) day.changes;
+  changes = counted_change (is_complete (ack_all_of d day)) day.changes;
 }

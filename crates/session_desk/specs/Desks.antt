@@ -1,19 +1,25 @@
--- What the desk of a run keeps.
-use Rattle.std.specs.Prelude.{◌≡◌, ℕ, List, [], length, Option, Some, None, Result, Ok, Err, refl}
-use Rattle.std.specs.Coded.{Coded, code_by, coded×, coded_list, coded_option, coded_ℕ}
+-- What contracts see of the managers of a session.
+use Rattle.std.specs.Prelude.{◌≡◌, ℕ, ◌<◌, nat_lt, Bool, true, false, List, [], ◌∷◌, ◌++◌, length, Option, Some, None, option_map, Result, Ok, Err, refl}
+use Rattle.std.specs.Coded.{Coded, code_by, coded×, coded_list, coded_option, coded_ℕ, coded_bool}
 use Rattle.std.specs.Ordering.{nat_cmp}
 use Rattle.std.specs.FinMap as maps
 use Rattle.std.specs.FinMap.{FinMap}
 use Rattle.access_vectors.specs.Decisions.{Decisions}
-use Rattle.access_vectors.specs.Phases.{number_of}
 use Rattle.access_vectors.specs.Stale.{Follows}
 use Rattle.access_vectors.specs.contracts.asked.Asked as asked_type
 use Rattle.access_vectors.specs.contracts.phase.Phase as phase_type
 use Rattle.access_vectors.specs.declared.asked.Asked.{Asked}
 use Rattle.access_vectors.specs.declared.phase.Phase.{Phase}
-use Rattle.manager_history.specs.declared.answers.NotifyFault.{NotifyFault}
-use Rattle.manager_history.specs.declared.answers.NotifyFault.TheVariants as faults
-use Rattle.managed.specs.Posts.{Post}
+use Rattle.access_vectors.specs.declared.change.NotifyFault.{NotifyFault}
+use Rattle.managed.specs.contracts.managed.Event as event_type
+use Rattle.managed.specs.declared.managed.Event.{Event}
+use Rattle.managed.specs.declared.managed.Event.TheVariants.{Operation}
+use Rattle.change_protocol.specs.Changes.{for_all}
+use Rattle.change_protocol.specs.declared.answers.NotifyAllFault.{NotifyAllFault}
+use Rattle.change_protocol.specs.declared.answers.NotifyAllFault.TheVariants as faults
+use Rattle.session_forms.specs.declared.run_forms.Manager.{Manager}
+use Rattle.session_forms.specs.declared.run_forms.Manager.TheVariants as manager
+use Rattle.managed.specs.Posts.{Post, notified}
 use Rattle.file_calls.specs.Openings as file_openings
 use Rattle.file_tree.specs.Plain.{PlainTree, Item}
 use Rattle.file_tree.specs.contracts.step.Step as step_type
@@ -32,7 +38,7 @@ use Rattle.port_calls.specs.States as port_states
 use Rattle.port_calls.specs.States.{PortState, Bound}
 use Rattle.port_calls.specs.contracts.opening.PortOpening as port_opening_type
 use Rattle.port_calls.specs.declared.opening.PortOpening.{PortOpening}
-use Rattle.session_desk.specs.Days.{Day}
+use Rattle.session_desk.specs.Days.{Day, with_posts}
 use Rattle.session_desk.specs.declared.opening.Openings.{Openings}
 
 -- what the newest call of each manager asked
@@ -45,11 +51,45 @@ pub record LastAsked : Type 0 where
 abbrev pub none_asked : LastAsked
 none_asked = record { files = []; processes = []; ports = [] }
 
--- what contracts see of a desk: where the run stands, what decides, and what the newest calls asked
+-- what the newest call of one manager asked
+abbrev pub asked_of : LastAsked → Manager → List Asked
+asked_of asked manager.File = asked.files
+asked_of asked manager.Process = asked.processes
+asked_of asked manager.Port = asked.ports
+
+-- the histories of the three managers, as the administrator sees them: an operation with its caller, its mark and its number
+pub record Events : Type 0 where
+  pub files : List Event
+  pub processes : List Event
+  pub ports : List Event
+
+-- before the first line
+abbrev pub no_events : Events
+no_events = record { files = []; processes = []; ports = [] }
+
+-- after a client's operation on a manager
+abbrev pub events_with : Events → Manager → ℕ → ℕ → ℕ → Events
+events_with events manager.File client mark number =
+    record { files = events.files ++ Operation client mark number ∷ []; processes = events.processes; ports = events.ports }
+events_with events manager.Process client mark number =
+    record { files = events.files; processes = events.processes ++ Operation client mark number ∷ []; ports = events.ports }
+events_with events manager.Port client mark number =
+    record { files = events.files; processes = events.processes; ports = events.ports ++ Operation client mark number ∷ [] }
+
+-- the number of a manager
+abbrev pub number_of : Manager → ℕ
+number_of manager.File = 0
+number_of manager.Process = 1
+number_of manager.Port = 2
+
+-- what contracts see of the managers of a session: where it stands, what decides, what the newest calls asked, the histories, and
+-- whether every manager has the notice of the number that is proposed, if one is
 pub record Standing (Decider : Type 0) : Type 0 where
   pub day : Day
   pub decider : Decider
   pub asked : LastAsked
+  pub events : Events
+  pub whole : Bool
 
 -- how a proof tells two of them apart: by the fields
 abbrev pub file_held_code : Coded file_states.Held
@@ -111,11 +151,19 @@ asked_code =
     (λ p. record { files = p.0; processes = p.1.0; ports = p.1.1 })
     (λ _. refl)
 
+abbrev pub events_code : Coded Events
+events_code =
+    code_by (List Event × (List Event × List Event))
+    (coded× (coded_list event_type.the_row.coded) (coded× (coded_list event_type.the_row.coded) (coded_list event_type.the_row.coded)))
+    (λ events. (events.files, (events.processes, events.ports)))
+    (λ p. record { files = p.0; processes = p.1.0; ports = p.1.1 })
+    (λ _. refl)
+
 abbrev pub standing_code : {Decider : Type 0} → Coded Decider → Coded (Standing Decider)
 standing_code {Decider = Decider} code =
-    code_by (Day × (Decider × LastAsked)) (coded× day_code (coded× code asked_code))
-    (λ standing. (standing.day, (standing.decider, standing.asked)))
-    (λ p. record { day = p.0; decider = p.1.0; asked = p.1.1 })
+    code_by (Day × (Decider × (LastAsked × (Events × Bool)))) (coded× day_code (coded× code (coded× asked_code (coded× events_code coded_bool))))
+    (λ standing. (standing.day, (standing.decider, (standing.asked, (standing.events, standing.whole)))))
+    (λ p. record { day = p.0; decider = p.1.0; asked = p.1.1.0; events = p.1.1.1.0; whole = p.1.1.1.1 })
     (λ _. refl)
 
 -- the identifiers of what the managers are opened with are the decider's, and the files' nodes are those of a tree
@@ -137,18 +185,20 @@ pub record HasClients (count : ℕ) (day : Day) : Type 0 where
   pub processes : length day.processes.state.opening.clients ≡ count
   pub ports : length day.ports.state.opening.clients ≡ count
 
--- the newest policy number is the same for each manager: where one has its notice of a change, each has
-pub record IsInStep (day : Day) : Type 0 where
-  pub processes : number_of day.processes.phase ≡ number_of day.files.phase
-  pub ports : number_of day.ports.phase ≡ number_of day.files.phase
-
--- the administrator's choice was refused for this cause, or begun under the next number; want of memory is free
-abbrev pub IsSaid : Result ℕ NotifyFault → Option NotifyFault → ℕ → Type 0
+-- the administrator's choice was refused for this cause, or begun under the next number; want of memory comes where nothing speaks
+-- against the choice, and leaves a manager without its notice
+abbrev pub IsSaid : Result ℕ NotifyAllFault → Option NotifyFault → ℕ → Type 0
 IsSaid (Ok number) refusal next = (refusal ≡ None) × (number ≡ next)
-IsSaid (Err faults.Memory) refusal next = Unit {0}
-IsSaid (Err fault) refusal next = refusal ≡ Some fault
+IsSaid (Err (faults.Memory reached)) refusal next = (refusal ≡ None) × (reached < 3)
+IsSaid (Err fault) refusal next = option_map for_all refusal ≡ Some fault
 
--- unless memory was wanting, this is the day after
-abbrev pub IsDayUnlessMemory : Result ℕ NotifyFault → Day → Day → Type 0
-IsDayUnlessMemory (Err faults.Memory) new after = Unit {0}
-IsDayUnlessMemory said new after = new ≡ after
+-- a manager has its notice where it is one of the first so many
+abbrev pub notified_if : {State : Type 0} → Bool → Post State → ℕ → Post State
+notified_if true post version = notified post version
+notified_if false post version = post
+
+-- after want of memory the first so many managers have their notice, and the others stand as before; else this is the day after
+abbrev pub IsDayUnlessMemory : Result ℕ NotifyAllFault → Day → Day → ℕ → Day → Type 0
+IsDayUnlessMemory (Err (faults.Memory reached)) new old version after =
+    new ≡ with_posts old (notified_if (nat_lt 0 reached) old.files version) (notified_if (nat_lt 1 reached) old.processes version) (notified_if (nat_lt 2 reached) old.ports version)
+IsDayUnlessMemory said new old version after = new ≡ after

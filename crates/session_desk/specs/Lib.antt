@@ -1,2 +1,4 @@
+pub mod One
 pub mod Days
 pub mod Desks
+pub mod Standings

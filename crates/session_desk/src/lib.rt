@@ -4,11 +4,16 @@
 //! three managers, which is complete only where each of them has acknowledged it.
 #![tactic(auto)]
 
+mod acting;
 mod acts;
 mod changes;
 mod desk;
+mod one_manager;
 mod opening;
 
-pub use changes::{Acks, Left};
-pub use desk::{Acted, Desk};
+pub use acting::{Act, Call, ClientAct, Reply};
+pub use acts::Acted;
+pub use changes::Acks;
+pub use desk::Desk;
+pub use one_manager::OneManager;
 pub use opening::Openings;

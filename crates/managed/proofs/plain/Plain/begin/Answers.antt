@@ -6,9 +6,8 @@ use Rattle.managed.proofs.plain.Plain.begin.Goals as goal
 pub invariant_of-self : goal.invariant_of-self
 invariant_of-self g c =
     let kept = c.self.invariant in (
-      kept.0,
       rw (c.enter.ensures, c.number-number.ensures, c.phase.ensures)
-          (named_set c.self.inside.keeper.phase c.self.inside.passes c.args.client (Some (number_of c.self.inside.keeper.phase)) kept.1 (newest_named c.self.inside.keeper.phase)),
+          (named_set c.self.inside.keeper.phase c.self.inside.passes c.args.client (Some (number_of c.self.inside.keeper.phase)) kept.0 (newest_named c.self.inside.keeper.phase)),
+      kept.1,
       kept.2,
-      kept.3,
     )

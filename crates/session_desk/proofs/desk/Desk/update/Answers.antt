@@ -1,21 +1,25 @@
-use Rattle.access_vectors.specs.declared.class.Class.TheVariants as class
-use Rattle.managed.specs.Posts.{post_of}
-use Rattle.file_calls.specs.Plain as file
-use Rattle.file_store.specs.Stores as file_store
-use Rattle.process_calls.specs.Plain as process
-use Rattle.process_store.specs.Stores as process_store
-use Rattle.port_calls.specs.Plain as port
-use Rattle.port_store.specs.Stores as port_store
-use Rattle.session_desk.proofs.ChangeLemmas.{updated_as}
+use Rattle.session_desk.proofs.ThreeLemmas.{three}
+use Rattle.session_desk.proofs.UpdateLemmas.{IsUpdatedSession, updated_session, updated_day, updated_left_on}
+use Rattle.session_desk.proofs.desk.Desk.update.Given as given
 use Rattle.session_desk.proofs.desk.Desk.update.Goals as goal
+
+-- the session after the update
+updated : (g : given.Over) (c : goal.After-left-2-1 g) → IsUpdatedSession g.D.Decider.decides c.self.inside.changes c.update_all.new.self c.self.invariant.0 c.args.k c.update_all.new.left
+updated g c =
+    let told = c.update_all.ensures in
+    let s = c.self.invariant.0 in
+    let t = three c.self.inside.changes s c.update_all.new.self.managers told.many told.same in
+    updated_session g.D.Decider.decides c.self.inside.changes c.update_all.new.self s t c.args.k c.update_all.new.left (rw c.from.ensures at told.updated) told.server told.reached
+
+pub invariant_of-self : goal.invariant_of-self
+invariant_of-self g c = ((updated g c).session, c.self.invariant.1)
+
+pub returns-clause-left : goal.returns-clause-left
+returns-clause-left g c =
+    rw (← c.self.view_is) (updated_left_on g.D.Decider.decides c.self.inside.changes c.update_all.new.self c.self.invariant.0 c.args.k c.update_all.new.left
+    c.self.inside.calls c.self.inside.denied c.self.inside.completed (updated g c))
 
 pub returns-clause-day : goal.returns-clause-day
 returns-clause-day g c =
-    let desk = c.self.inside in
-    let decides = g.D.Decider.decides in
-    let kept = c.self.invariant in
-    let files = updated_as decides class.File file.pair_of (post_of file_store.state_of file_store.follows desk.files) _ _ _ _ _ c.revise.ensures.post kept.0 c.from-k.ensures in
-    let processes = updated_as decides class.Process process.pair_of (post_of process_store.state_of process_store.follows desk.processes) _ _ _ _ _ c.revise-2.ensures.post kept.1 c.from-k.ensures in
-    let ports = updated_as decides class.Port port.pair_of (post_of port_store.state_of port_store.follows desk.ports) _ _ _ _ _ c.revise-3.ensures.post kept.2 c.from-k.ensures in
-    rw (← c.self.view_is)
-    (λ i. record { files = files i; processes = processes i; ports = ports i; calls = desk.calls; denied = desk.denied; changes = desk.changes })
+    rw (← c.self.view_is) (updated_day g.D.Decider.decides c.self.inside.changes c.update_all.new.self c.self.invariant.0 c.args.k c.update_all.new.left
+    c.self.inside.calls c.self.inside.denied c.self.inside.completed (updated g c))

@@ -1,4 +1,4 @@
-use Rattle.managed.proofs.plain.revise_slots.Given as goal
+use Rattle.managed.proofs.plain.Plain.update.Given as goal
 
 abbrev pub ghosts-update_counted : goal.ghosts-update_counted
 ghosts-update_counted g a = record { name = a.blank.name; parts = a.blank.parts }
