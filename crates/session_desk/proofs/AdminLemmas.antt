@@ -1,8 +1,8 @@
 -- What the administrator's calls do to where a manager on one thread stands, by what she sees of it.
-use Rattle.std.proofs.Common.{◌≡◌, ℕ, ◌-◌, Bool, true, false, List, length, drop, Option, Some, None, Result, Ok, Err, refl, sym, ap, ◌∙◌, arith, length-drop}
-use Rattle.std.specs.Prelude.{min, if◌then◌else◌}
+use Rattle.std.proofs.Common.{◌≡◌, ℕ, Bool, true, false, List, length, drop, Option, Some, Ok, Err, refl, sym, ap, ◌∙◌, arith, length-drop}
+use Rattle.std.specs.Prelude.{if◌then◌else◌}
 use Rattle.access_vectors.specs.Decisions.{Decisions}
-use Rattle.access_vectors.specs.Phases.{number_of, is_pending, noticed, acknowledged}
+use Rattle.access_vectors.specs.Phases.{is_pending, noticed, acknowledged}
 use Rattle.access_vectors.specs.Stale.{Follows, Pair}
 use Rattle.access_vectors.specs.declared.change.NotifyFault.{NotifyFault}
 use Rattle.access_vectors.specs.declared.class.Class.{Class}
@@ -26,7 +26,7 @@ settled_as : {State : Type 0} (post : Post State) (done : Bool) → settled_foll
 settled_as post false = refl
 settled_as post true = refl
 
-phase_as : {State : Type 0} (post : Post State) (done : Bool) → (if done then acknowledged post.phase else post.phase) ≡ (settled_if post done).phase
+pub phase_as : {State : Type 0} (post : Post State) (done : Bool) → (if done then acknowledged post.phase else post.phase) ≡ (settled_if post done).phase
 phase_as post false = refl
 phase_as post true = refl
 

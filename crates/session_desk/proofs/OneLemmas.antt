@@ -7,9 +7,8 @@ use Rattle.access_vectors.specs.Decisions.{Decisions}
 use Rattle.access_vectors.specs.Stale.{Follows, Pair}
 use Rattle.access_vectors.specs.declared.class.Class.{Class}
 use Rattle.std.specs.Prelude.{Option}
-use Rattle.manager_history.specs.Answers.{Manager}
 use Rattle.manager_history.specs.declared.entry.Entry.TheVariants as entry
-use Rattle.managed.specs.Posts.{Post, Stood, Following, IsSameUntried, post_of, answer_on, acting_number, called}
+use Rattle.managed.specs.Posts.{Post, Stood, IsSameUntried, post_of, acting_number}
 use Rattle.managed.specs.Seen.{IsSame, IsServed, IsOperation, event_of}
 use Rattle.managed.specs.Administered.{seen_of}
 use Rattle.session_desk.specs.declared.one_manager.OneManager.{OneManager}

@@ -1,8 +1,7 @@
 -- The managers of a session stay the three that they are.
-use Rattle.std.proofs.Common.{◌≡◌, ◌+◌, ◌≤◌, arith, ℕ, true, List, [], ◌∷◌, Option, Some, None, Result, Ok, Err, refl, sym, ap, ◌∙◌}
+use Rattle.std.proofs.Common.{◌≡◌, ◌+◌, ◌≤◌, arith, ℕ, List, Option, Some, None, Result, Ok, Err, refl, sym, ap, ◌∙◌}
 use Rattle.std.specs.Prelude.{slice_get, slice_set}
 use Rattle.access_vectors.specs.Decisions.{Decisions}
-use Rattle.access_vectors.specs.declared.phase.Phase.{Phase}
 use Rattle.flask_sid.specs.declared.memory.Memory.{Memory}
 use Rattle.managed.specs.Posts.{Post}
 use Rattle.security_server.specs.Numbering.{Kept}
@@ -19,7 +18,7 @@ use Rattle.session_desk.specs.declared.one_manager.OneManager.{OneManager}
 use Rattle.session_desk.specs.declared.one_manager.OneManager.TheVariants.{File, Process, Port}
 use Rattle.session_desk.specs.Days.{pending_at, counted_denial}
 use Rattle.session_desk.specs.Desks.{number_of}
-use Rattle.session_desk.specs.One.{Place, Files, Processes, Ports, IsKept, HasDone, place_of, decider_of, opening_of, phase}
+use Rattle.session_desk.specs.One.{Files, Processes, Ports, IsKept, HasDone, place_of, decider_of, opening_of, phase}
 use Rattle.session_desk.specs.Standings.{IsSession}
 use Rattle.session_desk.proofs.OneLemmas.{stayed_seen}
 

@@ -1,33 +1,25 @@
 -- The three managers of a session after a call of the administrator.
-use Rattle.std.proofs.Common.{◌≡◌, ℕ, ◌+◌, Bool, true, false, List, [], ◌∷◌, length, drop, Option, Some, None, refl, sym, ap, ◌∙◌, arith}
+use Rattle.std.proofs.Common.{◌≡◌, ℕ, List, [], ◌∷◌, length, Some, refl, ap, arith}
 use Rattle.std.specs.Prelude.{slice_get}
-use Rattle.access_vectors.specs.Decisions.{Decisions}
-use Rattle.access_vectors.specs.declared.class.Class.TheVariants as class
-use Rattle.managed.specs.Posts.{Post, Stood, post_of, stale_on, updated}
-use Rattle.managed.specs.Seen.{IsUpdated}
+use Rattle.managed.specs.Posts.{Post, Stood, post_of}
 use Rattle.managed.specs.Administered.{IsSameBesidesChange}
-use Rattle.change_protocol.specs.Changes.{Led, AreBoth, AreAll}
-use Rattle.file_calls.specs.Plain as file
+use Rattle.change_protocol.specs.Changes.{Led, AreBoth}
 use Rattle.file_calls.specs.States.{FileState}
 use Rattle.file_calls.specs.declared.call.FileCall.{FileCall}
 use Rattle.file_calls.specs.declared.call.FileReply.{FileReply}
 use Rattle.file_store.specs.Stores as file_store
-use Rattle.process_calls.specs.Plain as process
 use Rattle.process_calls.specs.States.{ProcessState}
 use Rattle.process_calls.specs.declared.call.ProcessCall.{ProcessCall}
 use Rattle.process_calls.specs.declared.call.ProcessReply.{ProcessReply}
 use Rattle.process_store.specs.Stores as process_store
-use Rattle.port_calls.specs.Plain as port
 use Rattle.port_calls.specs.States.{PortState}
 use Rattle.port_calls.specs.declared.call.PortCall.{PortCall}
 use Rattle.port_calls.specs.declared.call.PortReply.{PortReply}
 use Rattle.port_store.specs.Stores as port_store
 use Rattle.session_desk.specs.declared.one_manager.OneManager.{OneManager}
 use Rattle.session_desk.specs.declared.one_manager.OneManager.TheVariants.{File, Process, Port}
-use Rattle.session_desk.specs.Days.{Day, day_updated, left_on}
-use Rattle.session_desk.specs.One.{Place, Files, Processes, Ports, IsSame, place_of, decider_of, seen, file_opening, process_opening, port_opening}
+use Rattle.session_desk.specs.One.{Files, Processes, Ports, IsSame, place_of, file_opening, process_opening, port_opening}
 use Rattle.session_desk.specs.Standings.{IsSession, files_at, processes_at, ports_at, day_of}
-use Rattle.session_desk.proofs.AdminLemmas.{updated_post, updated_left}
 
 -- two values of the manager of files, of which it is known where the first stands
 pub record AreFiles {D : Type 0} (was now : OneManager D) (post : Post FileState) : Type 0 where

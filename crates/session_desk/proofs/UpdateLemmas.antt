@@ -1,5 +1,5 @@
 -- What an update does to a session.
-use Rattle.std.proofs.Common.{◌≡◌, ℕ, true, List, [], ◌∷◌, length, drop, Some, refl, sym, ap, ◌∙◌}
+use Rattle.std.proofs.Common.{◌≡◌, ℕ, List, [], ◌∷◌, length, drop, refl, sym, ap, ◌∙◌}
 use Rattle.std.specs.Prelude.{slice_get}
 use Rattle.access_vectors.specs.Decisions.{Decisions}
 use Rattle.access_vectors.specs.declared.class.Class.TheVariants as class
@@ -17,8 +17,8 @@ use Rattle.port_calls.specs.States.{PortState}
 use Rattle.port_store.specs.Stores as port_store
 use Rattle.session_desk.specs.declared.one_manager.OneManager.{OneManager}
 use Rattle.session_desk.specs.Days.{day_updated, left_on}
-use Rattle.session_desk.specs.One.{Files, Processes, Ports, IsSame, place_of, decider_of, seen, file_opening, process_opening, port_opening}
-use Rattle.session_desk.specs.Standings.{IsSession, is_whole, day_of}
+use Rattle.session_desk.specs.One.{Files, Processes, Ports, place_of, decider_of, seen, file_opening, process_opening, port_opening}
+use Rattle.session_desk.specs.Standings.{IsSession, day_of}
 use Rattle.session_desk.proofs.AdminLemmas.{updated_post, updated_left}
 use Rattle.session_desk.proofs.ThreeLemmas.{AreFiles, AreProcesses, ArePorts, Three, day_is}
 

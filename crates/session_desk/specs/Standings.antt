@@ -1,5 +1,5 @@
 -- Where a session stands, by its managers.
-use Rattle.std.specs.Prelude.{◌≡◌, ℕ, true, Bool, not, ◌||◌, ◌==◌, unwrap_or, List, [], ◌∷◌, slice_get, Option, Some, None, option_map}
+use Rattle.std.specs.Prelude.{◌≡◌, ℕ, true, Bool, not, ◌||◌, ◌==◌, unwrap_or, List, [], ◌∷◌, slice_get, Option, Some, option_map}
 use Rattle.access_vectors.specs.Decisions.{Decisions}
 use Rattle.access_vectors.specs.Phases.{is_pending}
 use Rattle.access_vectors.specs.declared.asked.Asked.{Asked}

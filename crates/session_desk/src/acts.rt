@@ -47,7 +47,9 @@ impl<'d, D: Decider> Desk<'d, D> {
         let manager = call.manager();
         let number = self.acting(client, manager);
         let act = Act::Call { mark, call };
-        let Some(reply) = self.changes.serve(alloc, number_of(manager), ClientAct { client, act })?
+        let Some(reply) = self
+            .changes
+            .serve(alloc, number_of(manager), ClientAct { client, act })?
         else {
             unreachable!()
         };
@@ -81,7 +83,9 @@ impl<'d, D: Decider> Desk<'d, D> {
         ensures whole { self.new.whole ≡ self.old.whole }
     {
         let act = Act::Begin;
-        let _begun = self.changes.serve(alloc, number_of(manager), ClientAct { client, act });
+        let _begun = self
+            .changes
+            .serve(alloc, number_of(manager), ClientAct { client, act });
     }
 
     /// A client gives its held pass of a manager back, if it holds one.
@@ -94,7 +98,9 @@ impl<'d, D: Decider> Desk<'d, D> {
         ensures whole { self.new.whole ≡ self.old.whole }
     {
         let act = Act::End;
-        let _ended = self.changes.serve(alloc, number_of(manager), ClientAct { client, act });
+        let _ended = self
+            .changes
+            .serve(alloc, number_of(manager), ClientAct { client, act });
     }
 }
 
@@ -114,5 +120,9 @@ fn counted(denied: u64, reply: &Reply) -> u64
     requires { denied + 1 < 2 ^ 64 }
     ensures { result ≡ Days.counted_denial (One.denial_of reply.now) denied }
 {
-    if reply.is_denied() { denied + 1 } else { denied }
+    if reply.is_denied() {
+        denied + 1
+    } else {
+        denied
+    }
 }

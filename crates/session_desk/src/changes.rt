@@ -59,14 +59,18 @@ impl<'d, D: Decider> Desk<'d, D> {
     {
         let mut said = [Said::Kept; 3];
         let all = self.changes.ack_all(rt, &mut said);
-        self.completed += u64::from(is_complete(all));
+        self.completed = counted(self.completed, all);
         Acks { all, said }
     }
 }
 
-/// Whether the change is complete.
-fn is_complete(all: AckAll) -> bool
-    ensures { result ≡ Days.is_complete all }
+/// A count of changes, with one more where this one is complete.
+fn counted(changes: u64, all: AckAll) -> u64
+    requires { changes + 1 < 2 ^ 64 }
+    ensures { result ≡ Days.counted_change (Days.is_complete all) changes }
 {
-    matches!(all, AckAll::Complete(_))
+    match all {
+        AckAll::Complete(_) => changes + 1,
+        AckAll::Idle | AckAll::Waiting => changes,
+    }
 }
