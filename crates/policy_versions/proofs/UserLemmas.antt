@@ -7,7 +7,7 @@ use Rattle.std.proofs.lemmas.List.{get_or_append_left, get_or_push, length_push}
 use Rattle.std.proofs.lemmas.List.Sums.{fails_before_first}
 use Rattle.std.proofs.lemmas.List.Quantifiers.{position-Some}
 use Rattle.std.proofs.lemmas.Slice.Eq.{bytes_eq-Decides}
-use Rattle.policy_text.specs.Deciding.{object_role}
+use Rattle.policy_model.specs.Deciding.{object_role}
 use Rattle.policy_versions.specs.Numbers.{row_at, object_row, is_user_role, HasObjectRow, AreRows}
 use Rattle.policy_versions.specs.Users.{IsRowOf, IsNew, HasObject}
 use Rattle.policy_versions.specs.declared.user_role.UserRole.{UserRole}

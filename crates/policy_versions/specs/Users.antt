@@ -1,6 +1,6 @@
 -- Rows that grow.
 use Rattle.std.specs.Prelude.{◌≡◌, ℕ, ◌<◌, ◌⊎◌, false, List, ◌++◌, length}
-use Rattle.policy_text.specs.Deciding.{object_role}
+use Rattle.policy_model.specs.Deciding.{object_role}
 use Rattle.policy_versions.specs.Numbers.{row_at, is_user_role}
 use Rattle.policy_versions.specs.declared.user_role.UserRole.{UserRole}
 

@@ -1,6 +1,6 @@
 ghost use Rattle.std.specs.Prelude.{◌≡◌, ◌+◌, ◌<◌, ◌≤◌, length, IfOk, MatchOption};
 ghost use Rattle.std.specs.List.{position};
-ghost use Rattle.policy_text.specs.Deciding.{object_role};
+ghost use Rattle.policy_model.specs.Deciding.{object_role};
 ghost use Rattle.policy_versions.specs.Numbers.{is_user_role, object_row, row_at, AreRows};
 ghost use Rattle.policy_versions.specs.Users.{IsRowOf, IsNew, HasObject, HasFront};
 
