@@ -7,7 +7,7 @@ use Rattle.std.proofs.lemmas.List.{map-append}
 use Rattle.std.proofs.lemmas.List.Elements.{filter-append}
 use Rattle.flask_sid.specs.declared.context.ContextOf.{ContextOf}
 use Rattle.access_vectors.specs.declared.asked.Asked.{Asked}
-use Rattle.policy_text.specs.declared.policy.PolicyParts.{PolicyParts}
+use Rattle.policy_model.specs.declared.policy.PolicyParts.{PolicyParts}
 use Rattle.audit_log.specs.Audited.{is_audited, line_for, lines_asked}
 use Rattle.audit_log.specs.Logs.{of_client, is_of, lines_by, Gains}
 use Rattle.audit_log.specs.declared.audited.Acting.{Acting}

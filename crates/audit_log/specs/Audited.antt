@@ -6,9 +6,9 @@ use Rattle.access_vectors.specs.Table.{Permission}
 use Rattle.access_vectors.specs.declared.asked.Asked.{Asked}
 use Rattle.manager_history.specs.declared.entry.Entry.{Entry}
 use Rattle.manager_history.specs.declared.entry.Entry.TheVariants.{Op, Notice, Ack}
-use Rattle.policy_text.specs.declared.policy.Pattern.{Pattern}
-use Rattle.policy_text.specs.declared.policy.PolicyParts.{PolicyParts}
-use Rattle.policy_text.specs.Matching.{matches_permission}
+use Rattle.policy_model.specs.declared.policy.Pattern.{Pattern}
+use Rattle.policy_model.specs.declared.policy.PolicyParts.{PolicyParts}
+use Rattle.policy_model.specs.Matching.{matches_permission}
 use Rattle.audit_log.specs.declared.audited.Acting.{Acting}
 use Rattle.audit_log.specs.declared.audited.AuditLine.{AuditLine}
 

@@ -6,7 +6,7 @@ ghost use Rattle.audit_log.specs.Audited;
 use access_vectors::{Asked, Perm};
 use flask_sid::{Memory, Rows, Sid, SidTable};
 use manager_history::Entry;
-use policy_text::{Pattern, PolicyParts};
+use policy_model::{Pattern, PolicyParts};
 use std::alloc::Global;
 
 /// Who acts in an operation: the client, its own mark of the call (the number of its line), and the policy number under

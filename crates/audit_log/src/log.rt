@@ -7,7 +7,7 @@ ghost use Rattle.audit_log.specs.Logs;
 use crate::audited::{Acting, AuditLine, AuditLines, is_audited, line_for};
 use access_vectors::Asked;
 use flask_sid::{Memory, Rows, SidTable};
-use policy_text::PolicyParts;
+use policy_model::PolicyParts;
 use std::alloc::Global;
 use std::marker::Model;
 

@@ -9,7 +9,7 @@ use Rattle.audit_log.specs.Logs.{of_client, lines_by, Gains}
 use Rattle.audit_log.specs.Texts.{line_text as audit_line_text}
 use Rattle.audit_log.specs.declared.audited.AuditLine.{AuditLine}
 use Rattle.audit_log.proofs.LogLemmas.{gains_nothing, gains_more}
-use Rattle.policy_text.specs.declared.policy.PolicyParts.{PolicyParts}
+use Rattle.policy_model.specs.declared.policy.PolicyParts.{PolicyParts}
 use Rattle.session_text.specs.declared.session.ClientLine.{ClientLine}
 use Rattle.session_text.specs.declared.session.RunLine.{RunLine}
 use Rattle.session_text.specs.declared.session.Run.{Run}

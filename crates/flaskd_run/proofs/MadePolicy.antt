@@ -9,16 +9,16 @@ use Rattle.std.proofs.lemmas.Map.Made.{length-le_from_is_member}
 use Rattle.flask_sid.specs.declared.context.ContextOf.{ContextOf}
 use Rattle.flask_sid.specs.SidTables.{is_same_context}
 use Rattle.access_vectors.specs.declared.class.Class.{Class}
-use Rattle.policy_text.specs.declared.form.Labelling.{Labelling}
-use Rattle.policy_text.specs.declared.form.Labelling.TheVariants as labelling
-use Rattle.policy_text.specs.declared.policy.AttributeLine.{AttributeLine}
-use Rattle.policy_text.specs.declared.policy.RuleLine.{RuleLine}
-use Rattle.policy_text.specs.declared.policy.Verdict.{Verdict}
-use Rattle.policy_text.specs.declared.policy.Verdict.TheVariants.{Allow, Withhold, Transition, Member}
-use Rattle.policy_text.specs.declared.policy.Version.{Version}
-use Rattle.policy_text.specs.Above.{rules_of}
-use Rattle.policy_text.specs.Matching.{matches}
-use Rattle.policy_text.specs.Deciding.{last_said, kind_given, gives_kind, rules_at, given_kind, takes_after_maker, object_role, label_of, member_of}
+use Rattle.policy_model.specs.declared.policy.Labelling.{Labelling}
+use Rattle.policy_model.specs.declared.policy.Labelling.TheVariants as labelling
+use Rattle.policy_model.specs.declared.policy.AttributeLine.{AttributeLine}
+use Rattle.policy_model.specs.declared.policy.RuleLine.{RuleLine}
+use Rattle.policy_model.specs.declared.policy.Verdict.{Verdict}
+use Rattle.policy_model.specs.declared.policy.Verdict.TheVariants.{Allow, Withhold, Transition, Member}
+use Rattle.policy_model.specs.declared.policy.Version.{Version}
+use Rattle.policy_model.specs.Declarations.{rules_of}
+use Rattle.policy_model.specs.Matching.{matches}
+use Rattle.policy_model.specs.Deciding.{last_said, kind_given, gives_kind, rules_at, given_kind, takes_after_maker, object_role, label_of, member_of}
 use Rattle.policy_text.proofs.OnLiterals.{policies_on_literals}
 use Rattle.policy_versions.specs.Closure.{declared_contexts, IsDerivable, declared, label, member, HasTooMany}
 use Rattle.policy_versions.specs.Nevers.{break_in, first_break}

@@ -5,7 +5,7 @@ use Rattle.flask_sid.specs.declared.context.ContextOf.{ContextOf}
 use Rattle.access_vectors.specs.Decisions.{Decisions}
 use Rattle.audit_log.specs.Logs.{Gains}
 use Rattle.audit_log.specs.declared.audited.AuditLine.{AuditLine}
-use Rattle.policy_text.specs.declared.policy.PolicyParts.{PolicyParts}
+use Rattle.policy_model.specs.declared.policy.PolicyParts.{PolicyParts}
 use Rattle.session_text.specs.Sessions.{IsSession, IsSidOf}
 use Rattle.session_text.specs.declared.session.ClientLine.{ClientLine}
 use Rattle.session_text.specs.declared.session.RunLine.{RunLine}

@@ -13,7 +13,7 @@ use Rattle.manager_history.specs.Kept.{is_done}
 use Rattle.access_vectors.specs.declared.change.NotifyFault.{NotifyFault}
 use Rattle.access_vectors.specs.declared.change.NotifyFault.TheVariants as faults
 use Rattle.managed.specs.Posts.{Post, settled_if}
-use Rattle.policy_text.specs.declared.policy.ContextLine.{ContextLine}
+use Rattle.policy_model.specs.declared.policy.ContextLine.{ContextLine}
 use Rattle.file_calls.specs.Plain as file
 use Rattle.file_calls.specs.Plain.{IsNamed}
 use Rattle.process_calls.specs.Plain as process
@@ -39,7 +39,7 @@ use Rattle.session_desk.specs.Desks.{AreOpenings, HasClients, IsInStep, IsSameOp
 use Rattle.session_desk.specs.declared.opening.Openings.{Openings}
 use Rattle.flaskd_run.specs.Serial.{day_after, day_below, line_text, lines_text, morning, openings_of}
 use Rattle.flaskd_run.specs.Underway.{MayRun, IsLeft}
-use Rattle.policy_text.specs.declared.policy.PolicyParts.{PolicyParts}
+use Rattle.policy_model.specs.declared.policy.PolicyParts.{PolicyParts}
 use Rattle.policy_versions.specs.Closure.{AreContexts, declared_contexts}
 use Rattle.policy_versions.specs.Judging.{decisions_of}
 use Rattle.flask_sid.specs.declared.context.ContextOf.{ContextOf}

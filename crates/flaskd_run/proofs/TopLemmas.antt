@@ -7,7 +7,7 @@ use Rattle.session_text.specs.Reading.{session_of}
 use Rattle.session_text.specs.declared.session.SessionParts.{SessionParts}
 use Rattle.flask_sid.specs.declared.context.ContextOf.{ContextOf}
 use Rattle.access_vectors.specs.Decisions.{Decisions}
-use Rattle.policy_text.specs.declared.policy.PolicyParts.{PolicyParts}
+use Rattle.policy_model.specs.declared.policy.PolicyParts.{PolicyParts}
 use Rattle.policy_versions.specs.Judging.{Judged, TooMany, Broken, Fits, IsJudged, decisions_of}
 use Rattle.policy_versions.specs.Compiling.{IsAnswer}
 use Rattle.policy_versions.specs.declared.compiling.CompileFault.{CompileFault}

@@ -10,7 +10,7 @@ use Rattle.audit_log.specs.Logs.{lines_by}
 use Rattle.audit_log.specs.Texts.{line_text as audit_line_text}
 use Rattle.audit_log.specs.declared.audited.AuditLine.{AuditLine}
 use Rattle.flaskd_run.specs.declared.lines.Caller.{Caller}
-use Rattle.policy_text.specs.declared.policy.PolicyParts.{PolicyParts}
+use Rattle.policy_model.specs.declared.policy.PolicyParts.{PolicyParts}
 use Rattle.managed.specs.Posts.{acting_number}
 use Rattle.session_text.specs.declared.session.ClientLine.{ClientLine}
 use Rattle.session_text.specs.declared.session.Run.{Run}

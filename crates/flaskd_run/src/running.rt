@@ -16,7 +16,7 @@ use access_vectors::Decider;
 use audit_log::AuditLog;
 use flask_io::Sink;
 use flask_sid::{Memory, Piece, SidTable};
-use policy_text::PolicyParts;
+use policy_model::PolicyParts;
 use session_desk::Desk;
 use session_text::{ClientLine, RunLine};
 use std::alloc::Global;

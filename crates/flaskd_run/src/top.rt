@@ -22,7 +22,7 @@ use access_vectors::{Decider, Perm};
 use command_line::Command;
 use flask_io::{Sink, Source};
 use flask_sid::{Memory, Name, SidTable, Word};
-use policy_text::PolicyParts;
+use policy_model::PolicyParts;
 use policy_versions::{CompileFault, compile};
 use session_text::{Session, SessionParts, read};
 use std::alloc::Global;

@@ -8,9 +8,9 @@ use Rattle.text_lines.specs.ResultSteps.{lines_fold}
 use Rattle.text_print.specs.Printed.{spaced}
 use Rattle.text_print.proofs.LineLaws.{lines_of_text}
 use Rattle.text_print.proofs.LeadLaws.{lead_lines}
-use Rattle.policy_text.specs.declared.policy.PolicyParts.{PolicyParts}
+use Rattle.policy_model.specs.declared.policy.PolicyParts.{PolicyParts}
 use Rattle.policy_text.specs.Grammar.{line_read, is_whole, end_read, policy_of}
-use Rattle.policy_text.specs.Kept.{Grown, Kept}
+use Rattle.policy_model.specs.Kept.{Grown, Kept}
 use Rattle.policy_print.specs.Printed.{policy_lines, printed}
 use Rattle.policy_print.specs.Same.{bare_context, bare_version, IsSamePolicy, IsSameAbove, IsTextOf}
 use Rattle.policy_print.proofs.SameLaws.{same_length}

@@ -8,13 +8,14 @@ use Rattle.std.proofs.lemmas.Slice.Eq.{bytes_eq-Decides}
 use Rattle.flask_sid.specs.Names.{is_name_form, is_name, is_long, is_self, is_kind_form}
 use Rattle.text_print.specs.Printed.{is_word}
 use Rattle.text_print.proofs.NameLaws.{name_is_word, form_of_kind}
-use Rattle.policy_text.specs.declared.policy.WhoOf.{WhoOf}
-use Rattle.policy_text.specs.declared.policy.WhoOf.TheVariants.{Named, Any, Itself}
-use Rattle.policy_text.specs.declared.policy.KindLine.{KindLine}
-use Rattle.policy_text.specs.declared.policy.AttributeLine.{AttributeLine}
+use Rattle.policy_model.specs.declared.policy.WhoOf.{WhoOf}
+use Rattle.policy_model.specs.declared.policy.WhoOf.TheVariants.{Named, Any, Itself}
+use Rattle.policy_model.specs.declared.policy.KindLine.{KindLine}
+use Rattle.policy_model.specs.declared.policy.AttributeLine.{AttributeLine}
 use Rattle.policy_text.specs.Forms.{is_star, source_of, target_of, are_members}
-use Rattle.policy_text.specs.Above.{is_kind, is_attribute, is_known_who, is_long_who}
-use Rattle.policy_text.specs.Kept.{Grows, is_kind_name, MayKind, MayAttribute, is_source}
+use Rattle.policy_model.specs.Declarations.{is_kind, is_attribute, is_known_who}
+use Rattle.policy_text.specs.Above.{is_long_who}
+use Rattle.policy_model.specs.Kept.{Grows, is_kind_name, MayKind, MayAttribute, is_source}
 use Rattle.policy_print.specs.Printed.{who_word}
 
 -- the name of a type or an attribute has their form

@@ -9,22 +9,22 @@ use Rattle.access_vectors.specs.Table.{class_word}
 use Rattle.access_vectors.specs.declared.class.Class.{Class}
 use Rattle.text_print.specs.Printed.{is_word}
 use Rattle.text_print.proofs.NameLaws.{form_of_name, context_form_text, context_is_word}
-use Rattle.policy_text.specs.declared.policy.WhoOf.{WhoOf}
-use Rattle.policy_text.specs.declared.policy.ContextLine.{ContextLine}
-use Rattle.policy_text.specs.declared.policy.KindLine.{KindLine}
-use Rattle.policy_text.specs.declared.policy.AttributeLine.{AttributeLine}
-use Rattle.policy_text.specs.declared.policy.Pattern.{Pattern}
-use Rattle.policy_text.specs.declared.policy.RuleLine.{RuleLine}
+use Rattle.policy_model.specs.declared.policy.WhoOf.{WhoOf}
+use Rattle.policy_model.specs.declared.policy.ContextLine.{ContextLine}
+use Rattle.policy_model.specs.declared.policy.KindLine.{KindLine}
+use Rattle.policy_model.specs.declared.policy.AttributeLine.{AttributeLine}
+use Rattle.policy_model.specs.declared.policy.Pattern.{Pattern}
+use Rattle.policy_model.specs.declared.policy.RuleLine.{RuleLine}
 use Rattle.policy_text.specs.declared.form.Form.{Form}
 use Rattle.policy_text.specs.declared.form.Form.TheVariants as form
 use Rattle.policy_text.specs.declared.form.Listing.{Listing}
 use Rattle.policy_text.specs.declared.form.Listing.TheVariants.{Never, Silent, Loud}
 use Rattle.policy_text.specs.declared.form.Decision.TheVariants as decision
-use Rattle.policy_text.specs.declared.form.Labelling.TheVariants as labelling
+use Rattle.policy_model.specs.declared.policy.Labelling.TheVariants as labelling
 use Rattle.policy_text.specs.declared.form.PatternForm.{PatternForm}
 use Rattle.policy_text.specs.declared.form.LabelForm.{LabelForm}
 use Rattle.policy_text.specs.Forms.{only_word, pattern_form, label_form, header_form, context_line_form, kind_line_form, attribute_form, listed_form, version_form, decided_form, labelled_form, declaration_form, line_form}
-use Rattle.policy_text.specs.Kept.{is_kind_name, is_source, IsPerms}
+use Rattle.policy_model.specs.Kept.{is_kind_name, is_source, IsPerms}
 use Rattle.policy_print.specs.Printed.{who_word, held_names}
 use Rattle.policy_print.proofs.FieldLaws.{kind_form, kind_is_word, IsWellNamed, source_again, target_again, who_is_word, members_are_words, are_members_again}
 use Rattle.policy_print.proofs.PermLaws.{class_reads, perms_read}

@@ -7,10 +7,10 @@ use Rattle.text_lines.specs.declared.fault.FaultKind.{FaultKind}
 use Rattle.text_print.specs.Printed.{spaced}
 use Rattle.text_print.proofs.WordLaws.{line_words_spaced}
 use Rattle.text_print.proofs.LeadLaws.{Leads, AllLead, lead_append}
-use Rattle.policy_text.specs.declared.policy.PolicyParts.{PolicyParts}
+use Rattle.policy_model.specs.declared.policy.PolicyParts.{PolicyParts}
 use Rattle.policy_text.specs.declared.form.Form.{Form}
 use Rattle.policy_text.specs.Grammar.{form_read, words_read, line_read}
-use Rattle.policy_text.specs.Kept.{Grows}
+use Rattle.policy_model.specs.Kept.{Grows}
 use Rattle.policy_print.specs.Same.{IsSameAbove}
 use Rattle.policy_print.proofs.FormLaws.{Says}
 use Rattle.policy_print.proofs.StepLaws.{Steps}

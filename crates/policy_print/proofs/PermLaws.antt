@@ -11,7 +11,7 @@ use Rattle.access_vectors.specs.Vectors.{has, with_index}
 use Rattle.text_print.specs.Printed.{is_word}
 use Rattle.policy_text.specs.Forms.{are_perms}
 use Rattle.policy_text.specs.Known.{perms_of, whole_row}
-use Rattle.policy_text.specs.Kept.{IsPerms}
+use Rattle.policy_model.specs.Kept.{IsPerms}
 use Rattle.policy_print.specs.Printed.{held_names}
 
 -- a printed class is read again

@@ -7,24 +7,25 @@ use Rattle.text_lines.specs.Lines.{is_comment, line_limit}
 use Rattle.text_print.specs.Printed.{is_word, spaced}
 use Rattle.text_print.proofs.WordLaws.{line_words_spaced}
 use Rattle.text_print.proofs.LeadLaws.{Leads, AllLead, lead_append, lead_words}
-use Rattle.policy_text.specs.declared.policy.WhoOf.{WhoOf}
-use Rattle.policy_text.specs.declared.policy.ContextLine.{ContextLine}
-use Rattle.policy_text.specs.declared.policy.KindLine.{KindLine}
-use Rattle.policy_text.specs.declared.policy.AttributeLine.{AttributeLine}
-use Rattle.policy_text.specs.declared.policy.Pattern.{Pattern}
-use Rattle.policy_text.specs.declared.policy.Verdict.{Verdict}
-use Rattle.policy_text.specs.declared.policy.Verdict.TheVariants.{Allow, Withhold, Transition, Member}
-use Rattle.policy_text.specs.declared.policy.RuleLine.{RuleLine}
-use Rattle.policy_text.specs.declared.policy.Version.{Version}
-use Rattle.policy_text.specs.declared.policy.PolicyParts.{PolicyParts}
+use Rattle.policy_model.specs.declared.policy.WhoOf.{WhoOf}
+use Rattle.policy_model.specs.declared.policy.ContextLine.{ContextLine}
+use Rattle.policy_model.specs.declared.policy.KindLine.{KindLine}
+use Rattle.policy_model.specs.declared.policy.AttributeLine.{AttributeLine}
+use Rattle.policy_model.specs.declared.policy.Pattern.{Pattern}
+use Rattle.policy_model.specs.declared.policy.Verdict.{Verdict}
+use Rattle.policy_model.specs.declared.policy.Verdict.TheVariants.{Allow, Withhold, Transition, Member}
+use Rattle.policy_model.specs.declared.policy.RuleLine.{RuleLine}
+use Rattle.policy_model.specs.declared.policy.Version.{Version}
+use Rattle.policy_model.specs.declared.policy.PolicyParts.{PolicyParts}
 use Rattle.policy_text.specs.declared.form.Form.TheVariants as form
 use Rattle.policy_text.specs.declared.form.Listing.{Listing}
 use Rattle.policy_text.specs.declared.form.Listing.TheVariants.{Never, Silent, Loud}
 use Rattle.policy_text.specs.declared.form.Decision.TheVariants as decision
-use Rattle.policy_text.specs.declared.form.Labelling.TheVariants as labelling
-use Rattle.policy_text.specs.Above.{listed_limit, has_version, listed_count, is_attribute, is_known_who}
+use Rattle.policy_model.specs.declared.policy.Labelling.TheVariants as labelling
+use Rattle.policy_model.specs.Declarations.{listed_limit, listed_count, is_attribute, is_known_who}
+use Rattle.policy_text.specs.Above.{has_version}
 use Rattle.policy_text.specs.Grammar.{with_listed, no_parts, form_read, words_read, line_read}
-use Rattle.policy_text.specs.Kept.{Grows, MayKind, MayContext, MayAttribute, IsApart, MayPattern, MayVerdict, MayRule, MayVersion, is_source, Grown}
+use Rattle.policy_model.specs.Kept.{Grows, MayKind, MayContext, MayAttribute, IsApart, MayPattern, MayVerdict, MayRule, MayVersion, is_source, Grown}
 use Rattle.policy_print.specs.Printed.{who_word, verdict_word, verdict_words, header_words, kind_words, context_words, attribute_words, pattern_words, rule_words, version_lines, policy_lines}
 use Rattle.policy_print.specs.Same.{IsSameAbove}
 use Rattle.policy_print.proofs.SameLaws.{same_itself}

@@ -7,24 +7,25 @@ use Rattle.flask_sid.specs.Names.{is_name, is_long}
 use Rattle.flask_sid.specs.Contexts.{is_long_context}
 use Rattle.flask_sid.specs.declared.context.ContextOf.{ContextOf}
 use Rattle.access_vectors.specs.declared.class.Class.{Class}
-use Rattle.policy_text.specs.declared.policy.WhoOf.{WhoOf}
-use Rattle.policy_text.specs.declared.policy.ContextLine.{ContextLine}
-use Rattle.policy_text.specs.declared.policy.KindLine.{KindLine}
-use Rattle.policy_text.specs.declared.policy.AttributeLine.{AttributeLine}
-use Rattle.policy_text.specs.declared.policy.Pattern.{Pattern}
-use Rattle.policy_text.specs.declared.policy.RuleLine.{RuleLine}
-use Rattle.policy_text.specs.declared.policy.Version.{Version}
-use Rattle.policy_text.specs.declared.policy.PolicyParts.{PolicyParts}
+use Rattle.policy_model.specs.declared.policy.WhoOf.{WhoOf}
+use Rattle.policy_model.specs.declared.policy.ContextLine.{ContextLine}
+use Rattle.policy_model.specs.declared.policy.KindLine.{KindLine}
+use Rattle.policy_model.specs.declared.policy.AttributeLine.{AttributeLine}
+use Rattle.policy_model.specs.declared.policy.Pattern.{Pattern}
+use Rattle.policy_model.specs.declared.policy.RuleLine.{RuleLine}
+use Rattle.policy_model.specs.declared.policy.Version.{Version}
+use Rattle.policy_model.specs.declared.policy.PolicyParts.{PolicyParts}
 use Rattle.policy_text.specs.declared.form.Form.{Form}
 use Rattle.policy_text.specs.declared.form.Form.TheVariants as form
 use Rattle.policy_text.specs.declared.form.Listing.{Listing}
 use Rattle.policy_text.specs.declared.form.Listing.TheVariants.{Never, Silent, Loud}
 use Rattle.policy_text.specs.declared.form.Decision.{Decision}
-use Rattle.policy_text.specs.declared.form.Labelling.{Labelling}
-use Rattle.policy_text.specs.Above.{context_limit, kind_limit, attribute_limit, listed_limit, version_limit, rule_limit, is_kind, is_attribute, has_context, is_known_who, is_long_pattern, is_long_label, has_version, listed_count, newest_rules, is_full_for}
+use Rattle.policy_model.specs.declared.policy.Labelling.{Labelling}
+use Rattle.policy_model.specs.Declarations.{context_limit, kind_limit, attribute_limit, listed_limit, version_limit, rule_limit, is_kind, is_attribute, has_context, is_known_who, listed_count}
+use Rattle.policy_text.specs.Above.{is_long_pattern, is_long_label, has_version, newest_rules, is_full_for}
 use Rattle.policy_text.specs.Known.{pattern_of, deciding_rule, decided, labelling_rule, labelled}
 use Rattle.policy_text.specs.Grammar.{with_kind, with_context, with_attribute, with_listed, with_version, with_rule, context_read, kind_read, attribute_read, listed_read, version_read, decided_read, labelled_read, below_header}
-use Rattle.policy_text.specs.Kept.{is_kind_name, MayKind, MayContext, MayAttribute, IsApart, IsPerms}
+use Rattle.policy_model.specs.Kept.{is_kind_name, MayKind, MayContext, MayAttribute, IsApart, IsPerms}
 use Rattle.policy_print.specs.Same.{bare_context, bare_kind, bare_attribute, bare_pattern, bare_rule, bare_version, IsSamePolicy}
 use Rattle.policy_print.proofs.SameLaws.{same_length, same_snoc, kind_same, attribute_same, context_same, known_same, members_same, begun_same, listed_same}
 use Rattle.policy_print.proofs.VersionLaws.{same_with_rule, newest_length, last_begun}

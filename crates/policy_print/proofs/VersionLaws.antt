@@ -6,9 +6,10 @@ use Rattle.std.proofs.lemmas.Bool.{ne_eqb}
 use Rattle.std.proofs.lemmas.List.{length-map, map-append}
 use Rattle.std.proofs.lemmas.Option.{slice_get-map, slice_get-get_or}
 use Rattle.std.proofs.Math.Seq.{get_or-append_seam}
-use Rattle.policy_text.specs.declared.policy.RuleLine.{RuleLine}
-use Rattle.policy_text.specs.declared.policy.Version.{Version}
-use Rattle.policy_text.specs.Above.{rules_of, newest_rules}
+use Rattle.policy_model.specs.declared.policy.RuleLine.{RuleLine}
+use Rattle.policy_model.specs.declared.policy.Version.{Version}
+use Rattle.policy_model.specs.Declarations.{rules_of}
+use Rattle.policy_text.specs.Above.{newest_rules}
 use Rattle.policy_text.specs.Grammar.{with_rule}
 use Rattle.policy_text.proofs.VersionLemmas.{with_rule_last}
 use Rattle.policy_print.specs.Same.{bare_rule, bare_version}

@@ -6,17 +6,17 @@ use Rattle.access_vectors.specs.declared.class.Class.{Class}
 use Rattle.access_vectors.specs.Table.{perm_count, perm_word, class_word}
 use Rattle.access_vectors.specs.Vectors.{has}
 use Rattle.text_print.specs.Printed.{ended, text_of}
-use Rattle.policy_text.specs.declared.policy.WhoOf.{WhoOf}
-use Rattle.policy_text.specs.declared.policy.WhoOf.TheVariants.{Named, Any, Itself}
-use Rattle.policy_text.specs.declared.policy.ContextLine.{ContextLine}
-use Rattle.policy_text.specs.declared.policy.KindLine.{KindLine}
-use Rattle.policy_text.specs.declared.policy.AttributeLine.{AttributeLine}
-use Rattle.policy_text.specs.declared.policy.Pattern.{Pattern}
-use Rattle.policy_text.specs.declared.policy.Verdict.{Verdict}
-use Rattle.policy_text.specs.declared.policy.Verdict.TheVariants.{Allow, Withhold, Transition, Member}
-use Rattle.policy_text.specs.declared.policy.RuleLine.{RuleLine}
-use Rattle.policy_text.specs.declared.policy.Version.{Version}
-use Rattle.policy_text.specs.declared.policy.PolicyParts.{PolicyParts}
+use Rattle.policy_model.specs.declared.policy.WhoOf.{WhoOf}
+use Rattle.policy_model.specs.declared.policy.WhoOf.TheVariants.{Named, Any, Itself}
+use Rattle.policy_model.specs.declared.policy.ContextLine.{ContextLine}
+use Rattle.policy_model.specs.declared.policy.KindLine.{KindLine}
+use Rattle.policy_model.specs.declared.policy.AttributeLine.{AttributeLine}
+use Rattle.policy_model.specs.declared.policy.Pattern.{Pattern}
+use Rattle.policy_model.specs.declared.policy.Verdict.{Verdict}
+use Rattle.policy_model.specs.declared.policy.Verdict.TheVariants.{Allow, Withhold, Transition, Member}
+use Rattle.policy_model.specs.declared.policy.RuleLine.{RuleLine}
+use Rattle.policy_model.specs.declared.policy.Version.{Version}
+use Rattle.policy_model.specs.declared.policy.PolicyParts.{PolicyParts}
 
 -- whom a line speaks of: a name, `*`, or `self`
 abbrev pub who_word : WhoOf (List ℕ) → List ℕ

@@ -6,7 +6,7 @@ ghost use Rattle.text_print.specs.Printed.{behind, ended};
 ghost use Rattle.policy_print.specs.Printed;
 
 use flask_sid::{Memory, Name, Piece};
-use policy_text::{AttributeLine, ContextLine, KindLine};
+use policy_model::{AttributeLine, ContextLine, KindLine};
 use text_print::{put_context, put_word};
 
 /// Puts a `type` line for each of these types.

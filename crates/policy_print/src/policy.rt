@@ -6,7 +6,7 @@ ghost use Rattle.policy_print.specs.Same.{IsTextOf};
 use crate::declarations::{put_attributes, put_contexts, put_kinds};
 use crate::rules::{put_patterns, put_versions};
 use flask_sid::{Memory, Piece};
-use policy_text::{PolicyParts, PolicyText};
+use policy_model::{PolicyParts, PolicyText};
 use std::alloc::Global;
 
 /// The text of a policy: `policy 1`, a `type` line for each declared type, the other declarations in their groups, and

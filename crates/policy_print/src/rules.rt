@@ -8,7 +8,7 @@ ghost use Rattle.policy_print.specs.Printed;
 
 use access_vectors::{Class, Perm, Vector, class_name, perm_name};
 use flask_sid::{Memory, Piece};
-use policy_text::{Pattern, RuleLine, Verdict, Version, Who, WhoOf};
+use policy_model::{Pattern, RuleLine, Verdict, Version, Who, WhoOf};
 use text_print::put_word;
 
 fn put_who(out: &mut Piece, who: &Who) -> Result<(), Memory>

@@ -13,23 +13,23 @@ use Rattle.access_vectors.specs.declared.class.Class.TheVariants.{File, Dir, Pro
 use Rattle.access_vectors.specs.Table.{Permission, class_named, perm_named, perm_words, perm_count}
 use Rattle.access_vectors.specs.Vectors.{with_index}
 use Rattle.text_lines.specs.OptionSteps.{◌>>=◌}
-use Rattle.policy_text.specs.declared.policy.WhoOf.{WhoOf}
-use Rattle.policy_text.specs.declared.policy.WhoOf.TheVariants.{Named, Any, Itself}
-use Rattle.policy_text.specs.declared.policy.KindLine.{KindLine}
-use Rattle.policy_text.specs.declared.policy.AttributeLine.{AttributeLine}
-use Rattle.policy_text.specs.declared.policy.Pattern.{Pattern}
-use Rattle.policy_text.specs.declared.policy.PolicyParts.{PolicyParts}
+use Rattle.policy_model.specs.declared.policy.WhoOf.{WhoOf}
+use Rattle.policy_model.specs.declared.policy.WhoOf.TheVariants.{Named, Any, Itself}
+use Rattle.policy_model.specs.declared.policy.KindLine.{KindLine}
+use Rattle.policy_model.specs.declared.policy.AttributeLine.{AttributeLine}
+use Rattle.policy_model.specs.declared.policy.Pattern.{Pattern}
+use Rattle.policy_model.specs.declared.policy.PolicyParts.{PolicyParts}
 use Rattle.policy_text.specs.declared.form.Decision.{Decision}
 use Rattle.policy_text.specs.declared.form.Decision.TheVariants.{Allow, Withhold}
-use Rattle.policy_text.specs.declared.form.Labelling.{Labelling}
-use Rattle.policy_text.specs.declared.form.Labelling.TheVariants.{Transition, Member}
+use Rattle.policy_model.specs.declared.policy.Labelling.{Labelling}
+use Rattle.policy_model.specs.declared.policy.Labelling.TheVariants.{Transition, Member}
 use Rattle.policy_text.specs.declared.form.PatternForm.{PatternForm}
 use Rattle.policy_text.specs.declared.form.LabelForm.{LabelForm}
 use Rattle.policy_text.specs.Forms.{is_star, are_perms}
-use Rattle.policy_text.specs.Above.{is_kind, is_attribute, is_known_who}
+use Rattle.policy_model.specs.Declarations.{is_kind, is_attribute, is_known_who}
 use Rattle.policy_text.specs.Known.{whole_row, perms_named, perms_of, pattern_of, deciding_rule, labelling_rule, labelled}
-use Rattle.policy_text.specs.Kept.{IsPerms, MayPattern, MayVerdict, IsRule}
-use Rattle.policy_text.proofs.GrowsLemmas.{any_append}
+use Rattle.policy_model.specs.Kept.{IsPerms, MayPattern, MayVerdict, IsRule}
+use Rattle.policy_model.proofs.GrowsLemmas.{any_append}
 use Rattle.policy_text.proofs.FormLemmas.{GoodPattern, GoodLabel, some_when, some_then}
 
 -- every type that is declared here is declared there

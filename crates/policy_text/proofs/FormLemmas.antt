@@ -8,19 +8,19 @@ use Rattle.flask_sid.specs.Names.{is_name_form, is_kind_form}
 use Rattle.flask_sid.specs.Contexts.{context_form, context_of_parts}
 use Rattle.flask_sid.specs.declared.context.ContextOf.{ContextOf}
 use Rattle.text_lines.specs.OptionSteps.{◌>>=◌}
-use Rattle.policy_text.specs.declared.policy.WhoOf.TheVariants.{Named, Any}
+use Rattle.policy_model.specs.declared.policy.WhoOf.TheVariants.{Named, Any}
 use Rattle.policy_text.specs.declared.form.Form.{Form}
 use Rattle.policy_text.specs.declared.form.Form.TheVariants as form
 use Rattle.policy_text.specs.declared.form.Listing.{Listing}
 use Rattle.policy_text.specs.declared.form.Listing.TheVariants.{Never, Silent, Loud}
 use Rattle.policy_text.specs.declared.form.Decision.{Decision}
 use Rattle.policy_text.specs.declared.form.Decision.TheVariants.{Allow, Withhold}
-use Rattle.policy_text.specs.declared.form.Labelling.{Labelling}
-use Rattle.policy_text.specs.declared.form.Labelling.TheVariants.{Transition, Member}
+use Rattle.policy_model.specs.declared.policy.Labelling.{Labelling}
+use Rattle.policy_model.specs.declared.policy.Labelling.TheVariants.{Transition, Member}
 use Rattle.policy_text.specs.declared.form.PatternForm.{PatternForm}
 use Rattle.policy_text.specs.declared.form.LabelForm.{LabelForm}
 use Rattle.policy_text.specs.Forms.{only_word, is_star, source_of, target_of, are_perms, are_members, pattern_form, label_form, header_form, context_line_form, kind_line_form, attribute_form, listed_form, version_form, decided_form, labelled_form, declaration_form, line_form}
-use Rattle.policy_text.specs.Kept.{is_source}
+use Rattle.policy_model.specs.Kept.{is_source}
 
 -- the names of a context but for their length
 pub record GoodContext (context : ContextOf (List ℕ)) : Type 0 where

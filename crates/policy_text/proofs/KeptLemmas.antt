@@ -13,27 +13,29 @@ use Rattle.text_lines.specs.declared.fault.FaultKind.{FaultKind}
 use Rattle.text_lines.specs.declared.fault.FaultKind.TheVariants.{Syntax, Order, Limit, Unknown, Twice}
 use Rattle.text_lines.specs.Lines.{line_words}
 use Rattle.text_lines.specs.ResultSteps.{found_or}
-use Rattle.policy_text.specs.declared.policy.ContextLine.{ContextLine}
-use Rattle.policy_text.specs.declared.policy.KindLine.{KindLine}
-use Rattle.policy_text.specs.declared.policy.AttributeLine.{AttributeLine}
-use Rattle.policy_text.specs.declared.policy.Pattern.{Pattern}
-use Rattle.policy_text.specs.declared.policy.RuleLine.{RuleLine}
-use Rattle.policy_text.specs.declared.policy.Version.{Version}
-use Rattle.policy_text.specs.declared.policy.PolicyParts.{PolicyParts}
+use Rattle.policy_model.specs.declared.policy.ContextLine.{ContextLine}
+use Rattle.policy_model.specs.declared.policy.KindLine.{KindLine}
+use Rattle.policy_model.specs.declared.policy.AttributeLine.{AttributeLine}
+use Rattle.policy_model.specs.declared.policy.Pattern.{Pattern}
+use Rattle.policy_model.specs.declared.policy.RuleLine.{RuleLine}
+use Rattle.policy_model.specs.declared.policy.Version.{Version}
+use Rattle.policy_model.specs.declared.policy.PolicyParts.{PolicyParts}
 use Rattle.policy_text.specs.declared.form.Form.{Form}
 use Rattle.policy_text.specs.declared.form.Form.TheVariants as form
 use Rattle.policy_text.specs.declared.form.Listing.{Listing}
 use Rattle.policy_text.specs.declared.form.Listing.TheVariants.{Never, Silent, Loud}
 use Rattle.policy_text.specs.declared.form.Decision.{Decision}
-use Rattle.policy_text.specs.declared.form.Labelling.{Labelling}
+use Rattle.policy_model.specs.declared.policy.Labelling.{Labelling}
 use Rattle.policy_text.specs.declared.form.PatternForm.{PatternForm}
 use Rattle.policy_text.specs.declared.form.LabelForm.{LabelForm}
 use Rattle.policy_text.specs.Forms.{line_form, are_members}
-use Rattle.policy_text.specs.Above.{context_limit, kind_limit, attribute_limit, listed_limit, version_limit, rule_limit, is_kind, is_attribute, has_context, is_long_pattern, is_long_label, has_version, listed_count, newest_rules, is_full_for}
+use Rattle.policy_model.specs.Declarations.{context_limit, kind_limit, attribute_limit, listed_limit, version_limit, rule_limit, is_kind, is_attribute, has_context, listed_count}
+use Rattle.policy_text.specs.Above.{is_long_pattern, is_long_label, has_version, newest_rules, is_full_for}
 use Rattle.policy_text.specs.Known.{pattern_of, deciding_rule, labelling_rule}
 use Rattle.policy_text.specs.Grammar.{with_kind, with_context, with_listed, with_rule, context_read, kind_read, attribute_read, listed_read, version_read, decided_read, labelled_read, below_header, no_parts, form_read, words_read, line_read, is_whole}
-use Rattle.policy_text.specs.Kept.{Grows, is_kind_name, MayKind, MayContext, MayAttribute, IsApart, MayPattern, IsRule, MayRule, MayVersion, Grown, Kept, GrownAbove}
-use Rattle.policy_text.proofs.GrowsLemmas.{grows_snoc, grows_more, none_snoc, all_more, unless, after}
+use Rattle.policy_model.specs.Kept.{Grows, is_kind_name, MayKind, MayContext, MayAttribute, IsApart, MayPattern, IsRule, MayRule, MayVersion, Grown, Kept, GrownAbove}
+use Rattle.policy_model.proofs.GrowsLemmas.{grows_snoc, grows_more, none_snoc, all_more}
+use Rattle.policy_text.proofs.StepLemmas.{unless, after}
 use Rattle.policy_text.proofs.FormLemmas.{GoodContext, GoodPattern, GoodLabel, Good, if_some, good_line}
 use Rattle.policy_text.proofs.DeclaredLemmas.{KindsStay, AttributesStay, kinds_stay, attributes_stay, kinds_snoc, attributes_snoc, known_stays, known_pattern, good_deciding, known_label}
 

@@ -1,10 +1,8 @@
 pub mod VersionLemmas
 pub mod ReadingLemmas
-pub mod VectorLemmas
-pub mod DecidingLemmas
 pub mod OnLiterals
-pub mod GrowsLemmas
+pub mod StepLemmas
 pub mod FormLemmas
 pub mod DeclaredLemmas
 pub mod KeptLemmas
-pub mod HintLemmas
+pub mod IndexLemmas

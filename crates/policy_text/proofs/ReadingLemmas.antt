@@ -7,7 +7,7 @@ use Rattle.text_lines.specs.declared.fault.FaultKind.{FaultKind}
 use Rattle.text_lines.specs.declared.fault.TextFault.{TextFault}
 use Rattle.text_lines.specs.declared.fault.TextFault.TheVariants as text_fault
 use Rattle.text_lines.proofs.FoldLemmas.{line_done, line_fails, lines_end}
-use Rattle.policy_text.specs.declared.policy.PolicyParts.{PolicyParts}
+use Rattle.policy_model.specs.declared.policy.PolicyParts.{PolicyParts}
 use Rattle.policy_text.specs.Grammar.{line_read, end_read, policy_of}
 use Rattle.policy_text.specs.Reading.{Reading, begun, read_on}
 

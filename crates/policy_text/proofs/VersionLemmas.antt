@@ -1,7 +1,7 @@
 -- The newest version.
 use Rattle.std.proofs.Common.{◌≡◌, List, [], ◌∷◌, ◌++◌, refl, ap}
-use Rattle.policy_text.specs.declared.policy.RuleLine.{RuleLine}
-use Rattle.policy_text.specs.declared.policy.Version.{Version}
+use Rattle.policy_model.specs.declared.policy.RuleLine.{RuleLine}
+use Rattle.policy_model.specs.declared.policy.Version.{Version}
 use Rattle.policy_text.specs.Grammar.{with_rule}
 
 -- without a version there is no place for a rule

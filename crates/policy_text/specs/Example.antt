@@ -1,11 +1,11 @@
 -- A first policy, and what the definitions say of it.
 use Rattle.std.specs.Prelude.{◌≡◌, ℕ, List, [], ◌∷◌, Ok, codes}
 use Rattle.access_vectors.specs.declared.class.Class.TheVariants.{File, Dir, Process}
-use Rattle.policy_text.specs.declared.policy.PolicyParts.{PolicyParts}
-use Rattle.policy_text.specs.declared.policy.WhoOf.TheVariants.{Named}
-use Rattle.policy_text.specs.declared.policy.Verdict.TheVariants.{Allow}
+use Rattle.policy_model.specs.declared.policy.PolicyParts.{PolicyParts}
+use Rattle.policy_model.specs.declared.policy.WhoOf.TheVariants.{Named}
+use Rattle.policy_model.specs.declared.policy.Verdict.TheVariants.{Allow}
 use Rattle.policy_text.specs.Grammar.{policy_of}
-use Rattle.policy_text.specs.Deciding.{vector_of}
+use Rattle.policy_model.specs.Deciding.{vector_of}
 
 -- one context, and one version of two rule lines
 abbrev pub smallest_text : List ℕ

@@ -5,16 +5,16 @@ use Rattle.std.specs.Str.{bytes_eq}
 use Rattle.flask_sid.specs.Names.{is_name_form, is_kind_form, is_self}
 use Rattle.flask_sid.specs.Contexts.{context_form}
 use Rattle.text_lines.specs.OptionSteps.{◌>>=◌}
-use Rattle.policy_text.specs.declared.policy.WhoOf.{WhoOf}
-use Rattle.policy_text.specs.declared.policy.WhoOf.TheVariants.{Named, Any, Itself}
+use Rattle.policy_model.specs.declared.policy.WhoOf.{WhoOf}
+use Rattle.policy_model.specs.declared.policy.WhoOf.TheVariants.{Named, Any, Itself}
 use Rattle.policy_text.specs.declared.form.Form.{Form}
 use Rattle.policy_text.specs.declared.form.Form.TheVariants as form
 use Rattle.policy_text.specs.declared.form.Listing.{Listing}
 use Rattle.policy_text.specs.declared.form.Listing.TheVariants.{Never, Silent, Loud}
 use Rattle.policy_text.specs.declared.form.Decision.{Decision}
 use Rattle.policy_text.specs.declared.form.Decision.TheVariants.{Allow, Withhold}
-use Rattle.policy_text.specs.declared.form.Labelling.{Labelling}
-use Rattle.policy_text.specs.declared.form.Labelling.TheVariants.{Transition, Member}
+use Rattle.policy_model.specs.declared.policy.Labelling.{Labelling}
+use Rattle.policy_model.specs.declared.policy.Labelling.TheVariants.{Transition, Member}
 use Rattle.policy_text.specs.declared.form.PatternForm.{PatternForm}
 use Rattle.policy_text.specs.declared.form.LabelForm.{LabelForm}
 

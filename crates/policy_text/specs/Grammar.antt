@@ -9,20 +9,21 @@ use Rattle.text_lines.specs.declared.fault.FaultKind.{FaultKind}
 use Rattle.text_lines.specs.declared.fault.FaultKind.TheVariants.{Syntax, Order, Limit, Unknown, Twice, Ended}
 use Rattle.text_lines.specs.Lines.{lines_of, line_words}
 use Rattle.text_lines.specs.ResultSteps.{◌>>=◌, found_or, LineFault, lines_fold}
-use Rattle.policy_text.specs.declared.policy.Pattern.{Pattern}
-use Rattle.policy_text.specs.declared.policy.RuleLine.{RuleLine}
-use Rattle.policy_text.specs.declared.policy.Version.{Version}
-use Rattle.policy_text.specs.declared.policy.PolicyParts.{PolicyParts}
+use Rattle.policy_model.specs.declared.policy.Pattern.{Pattern}
+use Rattle.policy_model.specs.declared.policy.RuleLine.{RuleLine}
+use Rattle.policy_model.specs.declared.policy.Version.{Version}
+use Rattle.policy_model.specs.declared.policy.PolicyParts.{PolicyParts}
 use Rattle.policy_text.specs.declared.form.Form.{Form}
 use Rattle.policy_text.specs.declared.form.Form.TheVariants as form
 use Rattle.policy_text.specs.declared.form.Listing.{Listing}
 use Rattle.policy_text.specs.declared.form.Listing.TheVariants.{Never, Silent, Loud}
 use Rattle.policy_text.specs.declared.form.Decision.{Decision}
-use Rattle.policy_text.specs.declared.form.Labelling.{Labelling}
+use Rattle.policy_model.specs.declared.policy.Labelling.{Labelling}
 use Rattle.policy_text.specs.declared.form.PatternForm.{PatternForm}
 use Rattle.policy_text.specs.declared.form.LabelForm.{LabelForm}
 use Rattle.policy_text.specs.Forms.{line_form}
-use Rattle.policy_text.specs.Above.{kind_limit, attribute_limit, listed_limit, version_limit, rule_limit, is_kind, is_attribute, has_context, is_long_pattern, is_long_label, has_version, listed_count, newest_rules, is_full_for}
+use Rattle.policy_model.specs.Declarations.{kind_limit, attribute_limit, listed_limit, version_limit, rule_limit, is_kind, is_attribute, has_context, listed_count}
+use Rattle.policy_text.specs.Above.{is_long_pattern, is_long_label, has_version, newest_rules, is_full_for}
 use Rattle.policy_text.specs.Known.{pattern_of, deciding_rule, labelling_rule}
 
 -- a policy with one type more

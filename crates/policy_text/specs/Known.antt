@@ -4,19 +4,19 @@ use Rattle.access_vectors.specs.declared.class.Class.{Class}
 use Rattle.access_vectors.specs.Table.{class_named, perm_named, perm_count}
 use Rattle.access_vectors.specs.Vectors.{with_index}
 use Rattle.text_lines.specs.OptionSteps.{◌>>=◌}
-use Rattle.policy_text.specs.declared.policy.Pattern.{Pattern}
-use Rattle.policy_text.specs.declared.policy.Verdict.{Verdict}
-use Rattle.policy_text.specs.declared.policy.Verdict.TheVariants as verdict
-use Rattle.policy_text.specs.declared.policy.RuleLine.{RuleLine}
-use Rattle.policy_text.specs.declared.policy.PolicyParts.{PolicyParts}
+use Rattle.policy_model.specs.declared.policy.Pattern.{Pattern}
+use Rattle.policy_model.specs.declared.policy.Verdict.{Verdict}
+use Rattle.policy_model.specs.declared.policy.Verdict.TheVariants as verdict
+use Rattle.policy_model.specs.declared.policy.RuleLine.{RuleLine}
+use Rattle.policy_model.specs.declared.policy.PolicyParts.{PolicyParts}
 use Rattle.policy_text.specs.declared.form.Decision.{Decision}
 use Rattle.policy_text.specs.declared.form.Decision.TheVariants.{Allow, Withhold}
-use Rattle.policy_text.specs.declared.form.Labelling.{Labelling}
-use Rattle.policy_text.specs.declared.form.Labelling.TheVariants.{Transition, Member}
+use Rattle.policy_model.specs.declared.policy.Labelling.{Labelling}
+use Rattle.policy_model.specs.declared.policy.Labelling.TheVariants.{Transition, Member}
 use Rattle.policy_text.specs.declared.form.PatternForm.{PatternForm}
 use Rattle.policy_text.specs.declared.form.LabelForm.{LabelForm}
 use Rattle.policy_text.specs.Forms.{is_star}
-use Rattle.policy_text.specs.Above.{is_kind, is_known_who}
+use Rattle.policy_model.specs.Declarations.{is_kind, is_known_who}
 
 -- all permissions of a class
 unfoldable pub whole_row : Class → ℕ

@@ -3,8 +3,6 @@ pub mod Above
 pub mod Leaving
 pub mod Known
 pub mod Grammar
+pub mod Indexed
 pub mod Reading
-pub mod Matching
-pub mod Deciding
 pub mod Example
-pub mod Kept

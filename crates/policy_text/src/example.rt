@@ -1,3 +1,5 @@
+//! A first policy text.
+
 ghost use Rattle.std.specs.Prelude.{◌≡◌};
 ghost use Rattle.policy_text.specs.Example.{AnswersOfSmallest, smallest_text};
 

@@ -1,10 +1,12 @@
+//! What each line says by itself.
+
 ghost use Rattle.std.specs.Prelude.{◌≡◌};
 ghost use Rattle.std.specs.List.{list_all};
 ghost use Rattle.flask_sid.specs.Names.{is_kind_form, is_name_form};
 ghost use Rattle.policy_text.specs.Forms;
 
-use crate::policy::WhoOf;
 use flask_sid::{ContextOf, Word, context_form};
+use policy_model::{Labelling, WhoOf};
 use text_lines::Words;
 
 /// A list of lines on permissions outside the versions.
@@ -20,13 +22,6 @@ pub enum Listing {
 pub enum Decision {
     Allow,
     Withhold,
-}
-
-/// What a line that gives a type decides.
-#[derive(Clone, Copy, Debug, PartialEq, Eq)]
-pub enum Labelling {
-    Transition,
-    Member,
 }
 
 /// The words of a line on permissions.

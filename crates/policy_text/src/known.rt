@@ -1,14 +1,16 @@
+//! What the names in a line stand for, where the lines above and the table of classes know them.
+
 ghost use Rattle.std.specs.Prelude.{◌≡◌, IfOk};
 ghost use Rattle.text_lines.specs.ResultSteps.{found_or};
 ghost use Rattle.text_lines.specs.Refusals.{Gives};
 ghost use Rattle.text_lines.specs.declared.fault.FaultKind.TheVariants.{Unknown};
 ghost use Rattle.policy_text.specs.Known;
 
-use crate::form::{Decision, LabelForm, Labelling, PatternForm};
-use crate::hints::Hints;
-use crate::policy::{Pattern, PolicyParts, RuleLine, Verdict, Who, WhoOf};
+use crate::draft::Draft;
+use crate::form::{Decision, LabelForm, PatternForm};
 use access_vectors::{Class, Vector, class_of, perm_of};
 use flask_sid::{Memory, Name, Word};
+use policy_model::{Labelling, Pattern, RuleLine, Verdict, Who, WhoOf};
 use std::alloc::Global;
 use text_lines::{FaultKind, Refusal, Words};
 
@@ -67,7 +69,7 @@ fn kept_who(alloc: Global, words: &WhoOf<Word<'_>>) -> Result<Who, Memory>
     }
 }
 
-impl PolicyParts {
+impl<'a> Draft<'a> {
     /// The line on permissions that the words of a line are. `Unknown` exactly where they name what no line above
     /// declares, or what the table of classes lacks.
     #[tactic(auto, unfolding(crate::specs::Known::pattern_of))]
@@ -75,12 +77,11 @@ impl PolicyParts {
         &self,
         alloc: Global,
         line: u32,
-        words: &PatternForm<'_>,
-        hints: &mut Hints,
+        words: &PatternForm<'a>,
     ) -> Result<Pattern, Refusal>
         ensures { Gives result (found_or Unknown (Known.pattern_of line words.now self.now)) }
     {
-        if !self.is_known(&words.source, hints) || !self.is_known(&words.target, hints) {
+        if !self.is_known(&words.source) || !self.is_known(&words.target) {
             return Err(Refusal::Fault(FaultKind::Unknown));
         }
         let Some(class) = class_of(words.class.as_bytes()) else {
@@ -105,14 +106,13 @@ impl PolicyParts {
         alloc: Global,
         line: u32,
         labelling: Labelling,
-        words: &LabelForm<'_>,
-        hints: &mut Hints,
+        words: &LabelForm<'a>,
     ) -> Result<RuleLine, Refusal>
         ensures { Gives result (found_or Unknown (Known.labelling_rule line labelling words.now self.now)) }
     {
-        if !self.is_known(&words.source, hints)
-            || !self.is_known(&words.target, hints)
-            || !self.is_kind_by(&words.kind, hints)
+        if !self.is_known(&words.source)
+            || !self.is_known(&words.target)
+            || !self.is_kind(&words.kind)
         {
             return Err(Refusal::Fault(FaultKind::Unknown));
         }

@@ -5,29 +5,24 @@
 //! named, so `read` answers the text's policy or exactly its first faulty line and what is wrong with it.
 #![tactic(auto)]
 
-mod above;
-mod deciding;
+mod contexts;
 mod declarations;
+mod draft;
 mod example;
 mod form;
-mod hints;
 mod known;
-mod labelling;
 mod line;
-mod matching;
-mod policy;
+mod long;
 mod reader;
 mod rules;
-mod text;
 
+pub use contexts::ContextIndex;
 pub use example::smallest;
-pub use form::Labelling;
-pub use policy::{
-    AttributeLine, ContextLine, KindLine, Pattern, PolicyParts, RuleLine, Verdict, Version, Who,
-    WhoOf,
+pub use policy_model::{
+    AttributeLine, ContextLine, KindLine, Labelling, Pattern, PolicyParts, PolicyText, RuleLine,
+    Verdict, Version, Who, WhoOf,
 };
 pub use reader::{PolicyReader, read};
-pub use text::PolicyText;
 pub use text_lines::FaultKind;
 
 /// Why a policy text is refused.

@@ -1,83 +1,78 @@
+//! One line of a policy text, below the lines above it.
+
 ghost use Rattle.std.specs.Prelude.{◌≡◌, ◌≤◌, OnOk};
-ghost use Rattle.text_lines.specs.Refusals.{Gives};
 ghost use Rattle.policy_text.specs.Leaving.{Leaves};
 ghost use Rattle.policy_text.specs.Grammar;
 
 use crate::declarations::{attribute_read, context_read, kind_read, listed_read};
+use crate::draft::Draft;
 use crate::form::{Form, line_form};
-use crate::hints::Hints;
-use crate::policy::PolicyParts;
 use crate::rules::{decided_read, labelled_read, version_read};
-use flask_sid::Rows;
 use std::alloc::Global;
 use text_lines::{FaultKind, Refusal, Words, line_words};
 
-/// What the lines above and this one say.
+/// Adds what a line says to what the lines above it say.
 #[tactic(auto, unfolding(crate::specs::Grammar::line_read))]
-pub(crate) fn line_read(
+pub(crate) fn line_read<'a>(
     alloc: Global,
     number: u32,
-    line: &[u8],
-    above: Option<PolicyParts>,
-    hints: &mut Hints,
-) -> Result<Option<PolicyParts>, Refusal>
-    ensures said { Gives result (Grammar.line_read number line.now above) }
+    line: &'a [u8],
+    above: &mut Option<Draft<'a>>,
+) -> Result<(), Refusal>
+    ensures said { Leaves result above.new (Grammar.line_read number line.now above.old) }
     ensures counted { OnOk result (number ≤ 100000) }
 {
     match line_words(number, line) {
-        Ok(words) => words_read(alloc, number, words, above, hints),
+        Ok(words) => words_read(alloc, number, words, above),
         Err(kind) => Err(Refusal::Fault(kind)),
     }
 }
 
 #[tactic(auto, unfolding(crate::specs::Grammar::words_read))]
-fn words_read(
+fn words_read<'a>(
     alloc: Global,
     number: u32,
-    mut words: Words<'_>,
-    above: Option<PolicyParts>,
-    hints: &mut Hints,
-) -> Result<Option<PolicyParts>, Refusal>
-    ensures { Gives result (Grammar.words_read number words.entry above) }
+    mut words: Words<'a>,
+    above: &mut Option<Draft<'a>>,
+) -> Result<(), Refusal>
+    ensures { Leaves result above.new (Grammar.words_read number words.entry above.old) }
 {
     match words.next() {
-        None => Ok(above),
+        None => Ok(()),
         Some(first) => match line_form(&first, words) {
             None => Err(Refusal::Fault(FaultKind::Syntax)),
-            Some(form) => form_read(alloc, number, form, above, hints),
+            Some(form) => form_read(alloc, number, form, above),
         },
     }
 }
 
 #[tactic(auto, unfolding(crate::specs::Grammar::form_read))]
-fn form_read(
+fn form_read<'a>(
     alloc: Global,
     number: u32,
-    form: Form<'_>,
-    above: Option<PolicyParts>,
-    hints: &mut Hints,
-) -> Result<Option<PolicyParts>, Refusal>
-    ensures { Gives result (Grammar.form_read number form.entry above) }
+    form: Form<'a>,
+    above: &mut Option<Draft<'a>>,
+) -> Result<(), Refusal>
+    ensures { Leaves result above.new (Grammar.form_read number form.entry above.old) }
 {
     match above {
-        Some(mut policy) => {
-            below_header(alloc, number, form, &mut policy, hints)?;
-            Ok(Some(policy))
-        }
+        Some(policy) => below_header(alloc, number, form, policy),
         None => match form {
-            Form::Header => Ok(Some(no_parts(alloc))),
+            Form::Header => {
+                *above = Some(Draft::new(alloc));
+                Ok(())
+            }
             _ => Err(Refusal::Fault(FaultKind::Order)),
         },
     }
 }
 
 #[tactic(auto, unfolding(crate::specs::Grammar::below_header))]
-fn below_header(
+fn below_header<'a>(
     alloc: Global,
     n: u32,
-    form: Form<'_>,
-    policy: &mut PolicyParts,
-    hints: &mut Hints,
+    form: Form<'a>,
+    policy: &mut Draft<'a>,
 ) -> Result<(), Refusal>
     ensures { Leaves result policy.new (Grammar.below_header n form.entry policy.old) }
 {
@@ -85,26 +80,10 @@ fn below_header(
         Form::Header => Err(Refusal::Fault(FaultKind::Order)),
         Form::Context(context) => context_read(alloc, n, context, policy),
         Form::Kind(name) => kind_read(alloc, n, name, policy),
-        Form::Attribute(name, members) => attribute_read(alloc, n, name, members, policy, hints),
-        Form::Listed(listing, words) => listed_read(alloc, n, listing, words, policy, hints),
+        Form::Attribute(name, members) => attribute_read(alloc, n, name, members, policy),
+        Form::Listed(listing, words) => listed_read(alloc, n, listing, words, policy),
         Form::Version => version_read(alloc, n, policy),
-        Form::Decided(decision, words) => decided_read(alloc, n, decision, words, policy, hints),
-        Form::Labelled(labelling, words) => labelled_read(
-            alloc, n, labelling, words, policy, hints,
-        ),
-    }
-}
-
-fn no_parts(alloc: Global) -> PolicyParts
-    ensures { result ≡ Grammar.no_parts }
-{
-    PolicyParts {
-        contexts: Rows::new(alloc),
-        kinds: Rows::new(alloc),
-        attributes: Rows::new(alloc),
-        nevers: Rows::new(alloc),
-        silent: Rows::new(alloc),
-        loud: Rows::new(alloc),
-        versions: Rows::new(alloc),
+        Form::Decided(decision, words) => decided_read(alloc, n, decision, words, policy),
+        Form::Labelled(labelling, words) => labelled_read(alloc, n, labelling, words, policy),
     }
 }

@@ -1,28 +1,30 @@
-ghost use Rattle.std.specs.Prelude.{◌≡◌};
+//! Reading a policy text to its end.
+
+ghost use Rattle.std.specs.Prelude.{◌≡◌, None, OnErr};
 ghost use Rattle.text_lines.specs.Refusals.{GivesText};
 ghost use Rattle.text_lines.specs.declared.fault.TextFault.TheVariants as text_fault;
 ghost use Rattle.text_lines.specs.declared.fault.FaultKind.TheVariants as fault_kind;
 ghost use Rattle.policy_text.specs.Grammar;
-ghost use Rattle.policy_text.specs.Reading.{begun, read_on};
+ghost use Rattle.policy_text.specs.Leaving.{LeavesText};
+ghost use Rattle.policy_text.specs.Reading.{IsEnded, IsRefusedAt, begun, read_on};
 
-use crate::hints::Hints;
+use crate::contexts::ContextIndex;
+use crate::draft::Draft;
 use crate::line::line_read;
-use crate::policy::PolicyParts;
-use crate::text::PolicyText;
+use policy_model::{PolicyParts, PolicyText};
 use std::alloc::Global;
 use std::marker::Model;
 use text_lines::{FaultKind, Refusal, TextFault, first_line};
 
 /// Reads a policy text that is handed over line after line, as by the reader of a longer text whose front a policy
 /// is. Contracts see the number of the next line and what the lines above it say.
-#[derive(Debug, Drop)]
-pub struct PolicyReader {
+#[derive(Drop)]
+pub struct PolicyReader<'a> {
     number: u32,
-    above: Option<PolicyParts>,
-    hints: Hints,
+    above: Option<Draft<'a>>,
 }
 
-impl Model for PolicyReader {
+impl<'a> Model for PolicyReader<'a> {
     ghost use Rattle.policy_text.specs.Reading.{Reading, IsLawful};
 
     ghost Value = { Reading };
@@ -32,15 +34,14 @@ impl Model for PolicyReader {
     ghost invariant = { λ reader. IsLawful reader.number reader.above };
 }
 
-impl PolicyReader {
+impl<'a> PolicyReader<'a> {
     /// The reader of a text's first line.
-    pub fn new() -> PolicyReader
+    pub fn new() -> PolicyReader<'a>
         ensures { result ≡ begun }
     {
         PolicyReader {
             number: 1,
             above: None,
-            hints: Hints::new(),
         }
     }
 
@@ -51,42 +52,38 @@ impl PolicyReader {
         self.number
     }
 
-    /// The reader below one line more, or that line's fault, with which the text is refused.
+    /// Reads one line more, or answers that line's fault, with which the text is refused. A reader that has refused a line
+    /// has read nothing any more.
     #[tactic(auto, unfolding(crate::specs::Reading::read_on))]
-    pub fn with_line(self, alloc: Global, line: &[u8]) -> Result<PolicyReader, TextFault>
-        ensures { GivesText result (read_on self line.now) }
+    pub fn read_line(&mut self, alloc: Global, line: &'a [u8]) -> Result<(), TextFault>
+        ensures read { LeavesText result self.new (read_on self.old line.now) }
+        ensures refused { OnErr result (self.new.above ≡ None) }
     {
-        let PolicyReader {
-            number,
-            above,
-            mut hints,
-        } = self;
-        hints.open(alloc);
-        match line_read(alloc, number, line, above, &mut hints) {
-            Ok(above) => Ok(PolicyReader {
-                number: number + 1,
-                above,
-                hints,
-            }),
-            Err(Refusal::Fault(kind)) => Err(TextFault::Text { line: number, kind }),
-            Err(Refusal::Memory) => Err(TextFault::Memory),
+        let number = self.number;
+        match line_read(alloc, number, line, &mut self.above) {
+            Ok(()) => {
+                self.number = number + 1;
+                Ok(())
+            }
+            Err(refusal) => {
+                self.above = None;
+                Err(refused_at(number, refusal))
+            }
         }
     }
 
-    /// The policy of a text that ends here. `Ended` exactly where it has no context or no version yet.
+    /// The policy of a text that ends here, and its contexts by their index. `Ended` exactly where it has no context or no
+    /// version yet.
     #[tactic(auto, unfolding(crate::specs::Grammar::end_read))]
-    pub fn finish(self) -> Result<PolicyText, TextFault>
-        ensures { GivesText result (Grammar.end_read self.number self.above) }
+    pub fn finish(self) -> Result<(PolicyText, ContextIndex<'a>), TextFault>
+        ensures { IsEnded result (Grammar.end_read self.entry.number self.entry.above) }
     {
-        let PolicyReader {
-            number,
-            above,
-            hints: _,
-        } = self;
+        let PolicyReader { number, above } = self;
         match above {
-            Some(policy) => {
+            Some(draft) => {
+                let (policy, contexts) = draft.finish();
                 if is_whole(&policy) {
-                    Ok(PolicyText::of(policy))
+                    Ok((PolicyText::of(policy), contexts))
                 } else {
                     Err(ended_at(number))
                 }
@@ -105,6 +102,16 @@ fn ended_at(number: u32) -> TextFault
     }
 }
 
+// The fault of a line that was refused.
+fn refused_at(line: u32, refusal: Refusal) -> TextFault
+    ensures { IsRefusedAt result line refusal }
+{
+    match refusal {
+        Refusal::Fault(kind) => TextFault::Text { line, kind },
+        Refusal::Memory => TextFault::Memory,
+    }
+}
+
 #[tactic(auto, unfolding(crate::specs::Grammar::is_whole))]
 fn is_whole(policy: &PolicyParts) -> bool
     ensures { result ≡ Grammar.is_whole policy.now }
@@ -119,11 +126,13 @@ pub fn read(alloc: Global, bytes: &[u8]) -> Result<PolicyText, TextFault>
     let mut reader = PolicyReader::new();
     let mut rest = bytes;
     'lines: while let Some((line, below)) = first_line(rest) {
-        match reader.with_line(alloc, line) {
-            Ok(next) => reader = next,
+        match reader.read_line(alloc, line) {
+            Ok(()) => rest = below,
             Err(fault) => return Err(fault),
         }
-        rest = below;
     }
-    reader.finish()
+    match reader.finish() {
+        Ok((policy, _contexts)) => Ok(policy),
+        Err(fault) => Err(fault),
+    }
 }

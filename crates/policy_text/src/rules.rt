@@ -1,50 +1,36 @@
-ghost use Rattle.std.specs.Prelude.{◌≡◌, OnOk};
+//! Versions and their rule lines.
+
+ghost use Rattle.std.specs.Prelude.{◌≡◌};
 ghost use Rattle.policy_text.specs.Leaving.{Leaves};
 ghost use Rattle.policy_text.specs.Grammar;
 
-use crate::above::{RULE_LIMIT, VERSION_LIMIT};
-use crate::form::{Decision, LabelForm, Labelling, PatternForm};
-use crate::hints::Hints;
+use crate::draft::{Draft, RULE_LIMIT, VERSION_LIMIT};
+use crate::form::{Decision, LabelForm, PatternForm};
 use crate::known::deciding_rule;
-use crate::policy::{PolicyParts, RuleLine, Version};
-use flask_sid::{Memory, Rows};
+use policy_model::Labelling;
 use std::alloc::Global;
 use text_lines::{FaultKind, Refusal};
 
 /// A `version` line.
 #[tactic(auto, unfolding(crate::specs::Grammar::version_read))]
-pub(crate) fn version_read(
-    alloc: Global,
-    line: u32,
-    policy: &mut PolicyParts,
-) -> Result<(), Refusal>
+pub(crate) fn version_read(alloc: Global, line: u32, policy: &mut Draft<'_>) -> Result<(), Refusal>
     ensures { Leaves result policy.new (Grammar.version_read line policy.old) }
 {
-    if policy.versions.len() >= VERSION_LIMIT {
+    if policy.parts().versions.len() >= VERSION_LIMIT {
         return Err(Refusal::Fault(FaultKind::Limit));
     }
-    add_version(alloc, line, policy)?;
+    policy.add_version(alloc, line)?;
     Ok(())
-}
-
-fn add_version(alloc: Global, line: u32, policy: &mut PolicyParts) -> Result<(), Memory>
-    ensures { OnOk result (policy.new ≡ Grammar.with_version line policy.old) }
-{
-    policy.versions.push(Version {
-        line,
-        rules: Rows::new(alloc),
-    })
 }
 
 /// An `allow` or `withhold` line.
 #[tactic(auto, unfolding(crate::specs::Grammar::decided_read))]
-pub(crate) fn decided_read(
+pub(crate) fn decided_read<'a>(
     alloc: Global,
     line: u32,
     decision: Decision,
-    words: PatternForm<'_>,
-    policy: &mut PolicyParts,
-    hints: &mut Hints,
+    words: PatternForm<'a>,
+    policy: &mut Draft<'a>,
 ) -> Result<(), Refusal>
     ensures { Leaves result policy.new (Grammar.decided_read line decision words.entry policy.old) }
 {
@@ -54,20 +40,19 @@ pub(crate) fn decided_read(
     if words.is_long() || policy.newest_count() >= RULE_LIMIT {
         return Err(Refusal::Fault(FaultKind::Limit));
     }
-    let pattern = policy.pattern(alloc, line, &words, hints)?;
-    add_rule(deciding_rule(decision, pattern), &mut policy.versions)?;
+    let pattern = policy.pattern(alloc, line, &words)?;
+    policy.add_rule(deciding_rule(decision, pattern))?;
     Ok(())
 }
 
 /// A `transition` or `member` line.
 #[tactic(auto, unfolding(crate::specs::Grammar::labelled_read))]
-pub(crate) fn labelled_read(
+pub(crate) fn labelled_read<'a>(
     alloc: Global,
     line: u32,
     labelling: Labelling,
-    words: LabelForm<'_>,
-    policy: &mut PolicyParts,
-    hints: &mut Hints,
+    words: LabelForm<'a>,
+    policy: &mut Draft<'a>,
 ) -> Result<(), Refusal>
     ensures { Leaves result policy.new (Grammar.labelled_read line labelling words.entry policy.old) }
 {
@@ -77,21 +62,7 @@ pub(crate) fn labelled_read(
     if words.is_long() || policy.newest_count() >= RULE_LIMIT {
         return Err(Refusal::Fault(FaultKind::Limit));
     }
-    let rule = policy.labelling_rule(alloc, line, labelling, &words, hints)?;
-    add_rule(rule, &mut policy.versions)?;
+    let rule = policy.labelling_rule(alloc, line, labelling, &words)?;
+    policy.add_rule(rule)?;
     Ok(())
-}
-
-// Gives the newest version one rule line more.
-fn add_rule(rule: RuleLine, versions: &mut Rows<Version>) -> Result<(), Memory>
-    ensures { OnOk result (versions.new ≡ Grammar.with_rule rule versions.old) }
-{
-    match versions.pop() {
-        None => Ok(()),
-        Some(mut newest) => {
-            newest.rules.push(rule)?;
-            versions.push(newest)?;
-            Ok(())
-        }
-    }
 }

@@ -3,11 +3,11 @@ use Rattle.std.proofs.Common.{◌≡◌, ◌≢◌, ◌∙◌, ℕ, ◌+◌, ◌
 use Rattle.std.specs.Prelude.{◌&&◌, ◌==◌}
 use Rattle.std.proofs.lemmas.Bool.{cases_eq, cases_lt, lt-ltb, le-ltb}
 use Rattle.std.proofs.lemmas.Bool.Decides.{nat_tests}
-use Rattle.policy_text.specs.declared.policy.AttributeLine.{AttributeLine}
-use Rattle.policy_text.specs.declared.policy.PolicyParts.{PolicyParts}
-use Rattle.policy_text.specs.declared.policy.WhoOf.{WhoOf}
-use Rattle.policy_text.specs.declared.policy.WhoOf.TheVariants.{Named, Any, Itself}
-use Rattle.policy_text.specs.Matching.{matches_source, matches_target}
+use Rattle.policy_model.specs.declared.policy.AttributeLine.{AttributeLine}
+use Rattle.policy_model.specs.declared.policy.PolicyParts.{PolicyParts}
+use Rattle.policy_model.specs.declared.policy.WhoOf.{WhoOf}
+use Rattle.policy_model.specs.declared.policy.WhoOf.TheVariants.{Named, Any, Itself}
+use Rattle.policy_model.specs.Matching.{matches_source, matches_target}
 use Rattle.policy_versions.specs.declared.change.Change.{Change}
 use Rattle.policy_versions.specs.declared.row.Row.{Row}
 use Rattle.policy_versions.specs.Changes.{changed_if, cell_of, no_row, AreChanged, AreMatchedChanged}

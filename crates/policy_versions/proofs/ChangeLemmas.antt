@@ -7,7 +7,7 @@ use Rattle.std.proofs.lemmas.Bool.Decides.{nat_tests}
 use Rattle.std.proofs.lemmas.Nat.Bits.{bit_at-lt, bit_at_not}
 use Rattle.access_vectors.specs.Vectors.{has}
 use Rattle.access_vectors.proofs.Members.{has-empty, has-both, same_from_has}
-use Rattle.policy_text.proofs.VectorLemmas.{has-or, has-out}
+use Rattle.policy_model.proofs.VectorLemmas.{has-or, has-out}
 
 -- the other value of a bit
 other_bit : (x : ℕ) → x < 2 → (1 - x == 1) ≡ not (x == 1)

@@ -8,10 +8,10 @@ use Rattle.std.proofs.lemmas.List.Folds.{Any-from_list_any}
 use Rattle.std.proofs.lemmas.List.Sums.{AllPass-from_list_all}
 use Rattle.flask_sid.specs.declared.context.ContextOf.{ContextOf}
 use Rattle.access_vectors.specs.declared.class.Class.{Class}
-use Rattle.policy_text.specs.declared.policy.PolicyParts.{PolicyParts}
-use Rattle.policy_text.specs.declared.form.Labelling.TheVariants.{Transition, Member}
-use Rattle.policy_text.specs.Deciding.{label_of, member_of, takes_after_maker}
-use Rattle.policy_text.specs.Kept.{Kept}
+use Rattle.policy_model.specs.declared.policy.PolicyParts.{PolicyParts}
+use Rattle.policy_model.specs.declared.policy.Labelling.TheVariants.{Transition, Member}
+use Rattle.policy_model.specs.Deciding.{label_of, member_of, takes_after_maker}
+use Rattle.policy_model.specs.Kept.{Kept}
 use Rattle.policy_versions.specs.Closure.{IsDerivable, declared, label, member, declared_contexts}
 use Rattle.policy_versions.specs.Numbers.{has_place, is_marked, object_row, AreRows, context_at, made_kind, made_row, Derives, IsPresent}
 use Rattle.policy_versions.specs.Gives.{GivenPlaces, AreGiven}

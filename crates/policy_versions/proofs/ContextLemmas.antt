@@ -10,13 +10,13 @@ use Rattle.flask_sid.specs.Names.{is_name_form, is_kind_form}
 use Rattle.flask_sid.specs.declared.context.ContextOf.{ContextOf}
 use Rattle.access_vectors.specs.declared.class.Class.{Class}
 use Rattle.access_vectors.specs.declared.class.Class.TheVariants.{File, Dir, Process, Port, Security}
-use Rattle.policy_text.specs.declared.policy.KindLine.{KindLine}
-use Rattle.policy_text.specs.declared.policy.ContextLine.{ContextLine}
-use Rattle.policy_text.specs.declared.policy.PolicyParts.{PolicyParts}
-use Rattle.policy_text.specs.declared.form.Labelling.TheVariants.{Transition, Member}
-use Rattle.policy_text.specs.Above.{is_kind}
-use Rattle.policy_text.specs.Deciding.{given_kind, label_of, member_of, takes_after_maker}
-use Rattle.policy_text.specs.Kept.{Grows, is_kind_name, MayKind, MayContext, Kept}
+use Rattle.policy_model.specs.declared.policy.KindLine.{KindLine}
+use Rattle.policy_model.specs.declared.policy.ContextLine.{ContextLine}
+use Rattle.policy_model.specs.declared.policy.PolicyParts.{PolicyParts}
+use Rattle.policy_model.specs.declared.policy.Labelling.TheVariants.{Transition, Member}
+use Rattle.policy_model.specs.Declarations.{is_kind}
+use Rattle.policy_model.specs.Deciding.{given_kind, label_of, member_of, takes_after_maker}
+use Rattle.policy_model.specs.Kept.{Grows, is_kind_name, MayKind, MayContext, Kept}
 use Rattle.policy_versions.specs.Places.{kind_at}
 use Rattle.policy_versions.specs.Closure.{IsDerivable, declared, label, member}
 use Rattle.policy_versions.specs.Numbers.{row_at, object_row, AreRows, is_user_role, context_at, made_kind, made_row}

@@ -8,10 +8,10 @@ use Rattle.std.proofs.lemmas.List.Elements.{All-push}
 use Rattle.std.proofs.lemmas.Map.Keys.{IsDistinct-from_apart}
 use Rattle.std.proofs.lemmas.Slice.Eq.{bytes_eq-Decides}
 use Rattle.flask_sid.specs.declared.context.ContextOf.{ContextOf}
-use Rattle.policy_text.specs.declared.policy.ContextLine.{ContextLine}
-use Rattle.policy_text.specs.declared.policy.PolicyParts.{PolicyParts}
-use Rattle.policy_text.specs.Above.{is_kind, same_context, has_context}
-use Rattle.policy_text.specs.Kept.{MayContext, Kept}
+use Rattle.policy_model.specs.declared.policy.ContextLine.{ContextLine}
+use Rattle.policy_model.specs.declared.policy.PolicyParts.{PolicyParts}
+use Rattle.policy_model.specs.Declarations.{is_kind, same_context, has_context}
+use Rattle.policy_model.specs.Kept.{MayContext, Kept}
 use Rattle.policy_versions.specs.Places.{kind_at}
 use Rattle.policy_versions.specs.Closure.{declared_contexts}
 use Rattle.policy_versions.specs.Numbers.{row_at, context_at}

@@ -1,7 +1,7 @@
 -- What holds of each member of a list that grew lawfully.
 use Rattle.std.proofs.Common.{◌≡◌, ℕ, zero, suc, ◌+◌, ◌<◌, ◌≤◌, List, [], ◌∷◌, ◌++◌, length, get_or, take, sym, subst, append_assoc, arith}
 use Rattle.std.proofs.lemmas.List.{append-nil, length-append}
-use Rattle.policy_text.specs.Kept.{Grows}
+use Rattle.policy_model.specs.Kept.{Grows}
 
 -- each member may follow those before it
 pub grows_at : {X : Type 0} (May : List X → X → Type 0) (seen xs : List X) → Grows May seen xs → (k : ℕ) (d : X) → k < length xs → May (seen ++ take k xs) (get_or xs k d)

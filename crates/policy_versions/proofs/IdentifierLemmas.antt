@@ -17,8 +17,8 @@ use Rattle.std.proofs.lemmas.Map.Keys.{IsDistinct-tail, IsDistinct-IsPermutation
 use Rattle.flask_sid.specs.declared.context.ContextOf.{ContextOf}
 use Rattle.flask_sid.specs.Contexts.{context_text}
 use Rattle.flask_sid.specs.SidTables.{is_same_context, is_kept, with_context, AreDistinct}
-use Rattle.policy_text.specs.declared.policy.PolicyParts.{PolicyParts}
-use Rattle.policy_text.specs.Kept.{Kept}
+use Rattle.policy_model.specs.declared.policy.PolicyParts.{PolicyParts}
+use Rattle.policy_model.specs.Kept.{Kept}
 use Rattle.policy_versions.specs.Closure.{IsDerivable, text_order, declared_contexts, AreContexts}
 use Rattle.policy_versions.specs.Numbers.{AreRows, context_at, Derives}
 use Rattle.policy_versions.specs.Users.{HasFront}

@@ -16,10 +16,10 @@ use Rattle.flask_sid.specs.SidTables.{is_same_context, AreDistinct}
 use Rattle.access_vectors.specs.declared.class.Class.{Class}
 use Rattle.access_vectors.specs.Vectors.{with_index}
 use Rattle.access_vectors.specs.Decisions.{IsClosed}
-use Rattle.policy_text.specs.declared.policy.PolicyParts.{PolicyParts}
-use Rattle.policy_text.specs.declared.form.Labelling.TheVariants.{Member}
-use Rattle.policy_text.specs.Deciding.{vector_where, vector_of, decided_vector, label_of, member_of, takes_after_maker}
-use Rattle.policy_text.specs.Kept.{Kept}
+use Rattle.policy_model.specs.declared.policy.PolicyParts.{PolicyParts}
+use Rattle.policy_model.specs.declared.policy.Labelling.TheVariants.{Member}
+use Rattle.policy_model.specs.Deciding.{vector_where, vector_of, decided_vector, label_of, member_of, takes_after_maker}
+use Rattle.policy_model.specs.Kept.{Kept}
 use Rattle.policy_versions.specs.declared.contexts.Contexts.{Contexts}
 use Rattle.policy_versions.specs.declared.vectors.VectorRows.{VectorRows}
 use Rattle.policy_versions.specs.declared.given.GivenRows.{GivenRows}

@@ -7,12 +7,12 @@ use Rattle.std.proofs.lemmas.Bool.{false≢true, or_from, or_parts, and_left, fa
 use Rattle.std.proofs.lemmas.List.{get_or-take, get_or_read, length-take-le, take_all}
 use Rattle.std.proofs.lemmas.List.Folds.{list_any_more, list_any_at}
 use Rattle.std.proofs.lemmas.Slice.Eq.{bytes_eq-Decides}
-use Rattle.policy_text.specs.declared.policy.KindLine.{KindLine}
-use Rattle.policy_text.specs.declared.policy.AttributeLine.{AttributeLine}
-use Rattle.policy_text.specs.declared.policy.PolicyParts.{PolicyParts}
-use Rattle.policy_text.specs.Above.{is_kind, is_attribute}
-use Rattle.policy_text.specs.Kept.{Grows, Kept, MayKind}
-use Rattle.policy_text.specs.Matching.{is_in, means}
+use Rattle.policy_model.specs.declared.policy.KindLine.{KindLine}
+use Rattle.policy_model.specs.declared.policy.AttributeLine.{AttributeLine}
+use Rattle.policy_model.specs.declared.policy.PolicyParts.{PolicyParts}
+use Rattle.policy_model.specs.Declarations.{is_kind, is_attribute}
+use Rattle.policy_model.specs.Kept.{Grows, Kept, MayKind}
+use Rattle.policy_model.specs.Matching.{is_in, means}
 use Rattle.policy_versions.specs.declared.kind_set.KindSet.{KindSet}
 use Rattle.policy_versions.specs.Places.{name_at, kind_at}
 use Rattle.policy_versions.specs.Kinds.{IsPlaceOf, ArePlaces, IsSetOf, IsUndeclared, AreSets, AreApart}

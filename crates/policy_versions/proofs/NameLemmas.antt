@@ -6,19 +6,19 @@ use Rattle.std.specs.Str.{bytes_eq}
 use Rattle.std.proofs.lemmas.Bool.Decides.{nat_tests}
 use Rattle.std.proofs.lemmas.List.Sums.{passes_at_first}
 use Rattle.access_vectors.specs.declared.class.Class.{Class}
-use Rattle.policy_text.specs.declared.policy.KindLine.{KindLine}
-use Rattle.policy_text.specs.declared.policy.AttributeLine.{AttributeLine}
-use Rattle.policy_text.specs.declared.policy.RuleLine.{RuleLine}
-use Rattle.policy_text.specs.declared.policy.Version.{Version}
-use Rattle.policy_text.specs.declared.policy.Verdict.{Verdict}
-use Rattle.policy_text.specs.declared.policy.Verdict.TheVariants as verdict
-use Rattle.policy_text.specs.declared.policy.PolicyParts.{PolicyParts}
-use Rattle.policy_text.specs.declared.form.Labelling.{Labelling}
-use Rattle.policy_text.specs.declared.form.Labelling.TheVariants.{Transition, Member}
-use Rattle.policy_text.specs.Above.{is_kind, rules_of}
-use Rattle.policy_text.specs.Matching.{matches}
-use Rattle.policy_text.specs.Deciding.{or_else, last_said, kind_given, gives_kind, given_kind, rules_at}
-use Rattle.policy_text.specs.Kept.{Grows, MayContext, MayVerdict, MayRule, MayVersion, Kept}
+use Rattle.policy_model.specs.declared.policy.KindLine.{KindLine}
+use Rattle.policy_model.specs.declared.policy.AttributeLine.{AttributeLine}
+use Rattle.policy_model.specs.declared.policy.RuleLine.{RuleLine}
+use Rattle.policy_model.specs.declared.policy.Version.{Version}
+use Rattle.policy_model.specs.declared.policy.Verdict.{Verdict}
+use Rattle.policy_model.specs.declared.policy.Verdict.TheVariants as verdict
+use Rattle.policy_model.specs.declared.policy.PolicyParts.{PolicyParts}
+use Rattle.policy_model.specs.declared.policy.Labelling.{Labelling}
+use Rattle.policy_model.specs.declared.policy.Labelling.TheVariants.{Transition, Member}
+use Rattle.policy_model.specs.Declarations.{is_kind, rules_of}
+use Rattle.policy_model.specs.Matching.{matches}
+use Rattle.policy_model.specs.Deciding.{or_else, last_said, kind_given, gives_kind, given_kind, rules_at}
+use Rattle.policy_model.specs.Kept.{Grows, MayContext, MayVerdict, MayRule, MayVersion, Kept}
 use Rattle.policy_versions.specs.Kinds.{IsPlaceOf}
 use Rattle.policy_versions.proofs.GrowsLemmas.{grows_few}
 use Rattle.policy_versions.proofs.KindLemmas.{same_name, no_kind}

@@ -8,12 +8,12 @@ use Rattle.access_vectors.specs.declared.class.Class.TheVariants.{File, Dir, Pro
 use Rattle.access_vectors.specs.Table.{perm_count}
 use Rattle.access_vectors.specs.Vectors.{has}
 use Rattle.access_vectors.proofs.Members.{has-empty, has-both}
-use Rattle.policy_text.specs.declared.policy.Pattern.{Pattern}
-use Rattle.policy_text.specs.declared.policy.PolicyParts.{PolicyParts}
-use Rattle.policy_text.specs.declared.policy.WhoOf.{WhoOf}
-use Rattle.policy_text.specs.declared.policy.WhoOf.TheVariants.{Itself}
-use Rattle.policy_text.specs.Matching.{matches_source, matches_target, matches_permission, is_same_class}
-use Rattle.policy_text.specs.Deciding.{or_else, vector_of}
+use Rattle.policy_model.specs.declared.policy.Pattern.{Pattern}
+use Rattle.policy_model.specs.declared.policy.PolicyParts.{PolicyParts}
+use Rattle.policy_model.specs.declared.policy.WhoOf.{WhoOf}
+use Rattle.policy_model.specs.declared.policy.WhoOf.TheVariants.{Itself}
+use Rattle.policy_model.specs.Matching.{matches_source, matches_target, matches_permission, is_same_class}
+use Rattle.policy_model.specs.Deciding.{or_else, vector_of}
 use Rattle.policy_versions.specs.Places.{kind_at}
 use Rattle.policy_versions.specs.Nevers.{first_below, first_of, common, is_broken, broken_perm, break_with, break_at, break_from, AreTargets}
 use Rattle.policy_versions.specs.Sets.{has_place}

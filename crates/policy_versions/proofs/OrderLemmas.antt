@@ -11,7 +11,7 @@ use Rattle.std.proofs.lemmas.List.{get_or-map, length-map}
 use Rattle.std.proofs.lemmas.List.Sorted.{sorted_far, ranks_by}
 use Rattle.std.proofs.lemmas.List.Elements.{recursion_from_All}
 use Rattle.flask_sid.specs.Contexts.{context_text}
-use Rattle.policy_text.specs.declared.policy.PolicyParts.{PolicyParts}
+use Rattle.policy_model.specs.declared.policy.PolicyParts.{PolicyParts}
 use Rattle.policy_versions.specs.Numbers.{context_at}
 use Rattle.policy_versions.specs.Orders.{place_at, IsTexted, AreInTextOrder}
 use Rattle.policy_versions.specs.declared.user_role.UserRole.{UserRole}

@@ -12,8 +12,8 @@ use Rattle.std.proofs.lemmas.Map.Keys.{IsDistinct-push, IsDistinct-from_apart, a
 use Rattle.std.proofs.lemmas.Slice.Eq.{bytes_eq-Decides}
 use Rattle.flask_sid.specs.declared.context.ContextOf.{ContextOf}
 use Rattle.flask_sid.specs.SidTables.{is_same_context, AreDistinct}
-use Rattle.policy_text.specs.declared.policy.PolicyParts.{PolicyParts}
-use Rattle.policy_text.specs.Kept.{Kept}
+use Rattle.policy_model.specs.declared.policy.PolicyParts.{PolicyParts}
+use Rattle.policy_model.specs.Kept.{Kept}
 use Rattle.policy_versions.specs.Closure.{IsDerivable, HasTooMany}
 use Rattle.policy_versions.specs.Numbers.{is_marked, AreRows, context_at, Derives}
 use Rattle.policy_versions.specs.Users.{HasFront}

@@ -3,7 +3,7 @@ use Rattle.std.proofs.Common.{◌≡◌, ◌<◌, ◌+◌, ◌⊎◌, inl, inr, 
 use Rattle.std.specs.Prelude.{◌||◌, ◌&&◌, ◌==◌}
 use Rattle.std.proofs.lemmas.Bool.{both_ways, or_cases, or_right, and_parts, and_from, eqb-true, eq-eqb}
 use Rattle.access_vectors.specs.declared.class.Class.{Class}
-use Rattle.policy_text.specs.Deciding.{takes_after_maker}
+use Rattle.policy_model.specs.Deciding.{takes_after_maker}
 use Rattle.policy_versions.specs.Gives.{GivenPlaces}
 use Rattle.policy_versions.specs.Numbers.{is_marked, made_kind}
 use Rattle.policy_versions.specs.Steps.{StayMarked, TakesClass, Takes, TakesTargets, TakesSources, TakesVersions, GivesOwn, GivesObject, OnlyGives, IsDue, AreDue}

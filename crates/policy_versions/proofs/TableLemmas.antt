@@ -6,13 +6,13 @@ use Rattle.std.proofs.lemmas.List.{get_or_append_left, get_or-append-add, get_or
 use Rattle.std.proofs.lemmas.Option.{slice_get-get_or, slice_get_past, slice_get_read}
 use Rattle.access_vectors.specs.declared.class.Class.{Class}
 use Rattle.access_vectors.specs.declared.class.Class.TheVariants.{File, Dir, Process, Port, Security}
-use Rattle.policy_text.specs.declared.policy.PolicyParts.{PolicyParts}
-use Rattle.policy_text.specs.declared.policy.RuleLine.{RuleLine}
-use Rattle.policy_text.specs.declared.policy.Version.{Version}
-use Rattle.policy_text.specs.Above.{rules_of}
-use Rattle.policy_text.specs.Kept.{Grows, Kept, MayVersion, MayRule}
-use Rattle.policy_text.specs.declared.form.Labelling.TheVariants.{Transition, Member}
-use Rattle.policy_text.specs.Deciding.{rules_at, given_kind}
+use Rattle.policy_model.specs.declared.policy.PolicyParts.{PolicyParts}
+use Rattle.policy_model.specs.declared.policy.RuleLine.{RuleLine}
+use Rattle.policy_model.specs.declared.policy.Version.{Version}
+use Rattle.policy_model.specs.Declarations.{rules_of}
+use Rattle.policy_model.specs.Kept.{Grows, Kept, MayVersion, MayRule}
+use Rattle.policy_model.specs.declared.policy.Labelling.TheVariants.{Transition, Member}
+use Rattle.policy_model.specs.Deciding.{rules_at, given_kind}
 use Rattle.policy_versions.specs.declared.change.Content.{Content}
 use Rattle.policy_versions.specs.declared.change.Content.TheVariants.{Given}
 use Rattle.policy_versions.specs.declared.given.GivenRows.{GivenRows}

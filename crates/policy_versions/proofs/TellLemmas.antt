@@ -7,18 +7,18 @@ use Rattle.access_vectors.specs.declared.class.Class.{Class}
 use Rattle.access_vectors.specs.declared.class.Class.TheVariants.{File, Dir, Process, Port, Security}
 use Rattle.access_vectors.specs.Table.{perm_count}
 use Rattle.access_vectors.specs.Vectors.{has}
-use Rattle.policy_text.specs.declared.policy.PolicyParts.{PolicyParts}
-use Rattle.policy_text.specs.declared.policy.AttributeLine.{AttributeLine}
-use Rattle.policy_text.specs.declared.policy.RuleLine.{RuleLine}
-use Rattle.policy_text.specs.declared.policy.Verdict.{Verdict}
-use Rattle.policy_text.specs.declared.policy.Verdict.TheVariants.{Allow, Withhold, Transition, Member}
-use Rattle.policy_text.specs.declared.form.Labelling.{Labelling}
-use Rattle.policy_text.specs.declared.form.Labelling.TheVariants as labelling
-use Rattle.policy_text.specs.Kept.{IsRule, MayVerdict}
-use Rattle.policy_text.specs.Matching.{matches, matches_source, matches_target, is_same_class}
-use Rattle.policy_text.specs.Deciding.{decided_vector, is_allowed, last_said, gives_kind, verdict_on, or_else}
-use Rattle.policy_text.proofs.VectorLemmas.{has-where}
-use Rattle.policy_text.proofs.DecidingLemmas.{none_allowed, unmatched_more, labelling_more, allow_more, withhold_more, last_said-snoc}
+use Rattle.policy_model.specs.declared.policy.PolicyParts.{PolicyParts}
+use Rattle.policy_model.specs.declared.policy.AttributeLine.{AttributeLine}
+use Rattle.policy_model.specs.declared.policy.RuleLine.{RuleLine}
+use Rattle.policy_model.specs.declared.policy.Verdict.{Verdict}
+use Rattle.policy_model.specs.declared.policy.Verdict.TheVariants.{Allow, Withhold, Transition, Member}
+use Rattle.policy_model.specs.declared.policy.Labelling.{Labelling}
+use Rattle.policy_model.specs.declared.policy.Labelling.TheVariants as labelling
+use Rattle.policy_model.specs.Kept.{IsRule, MayVerdict}
+use Rattle.policy_model.specs.Matching.{matches, matches_source, matches_target, is_same_class}
+use Rattle.policy_model.specs.Deciding.{decided_vector, is_allowed, last_said, gives_kind, verdict_on, or_else}
+use Rattle.policy_model.proofs.VectorLemmas.{has-where}
+use Rattle.policy_model.proofs.DecidingLemmas.{none_allowed, unmatched_more, labelling_more, allow_more, withhold_more, last_said-snoc}
 use Rattle.policy_versions.specs.declared.change.Change.{Change}
 use Rattle.policy_versions.specs.declared.change.Content.{Content}
 use Rattle.policy_versions.specs.declared.change.Content.TheVariants.{Vectors, Given}

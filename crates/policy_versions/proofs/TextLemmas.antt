@@ -7,13 +7,13 @@ use Rattle.flask_sid.specs.Names.{is_lower, is_name_byte, is_name_form, is_long,
 use Rattle.flask_sid.specs.Contexts.{context_text}
 use Rattle.flask_sid.specs.declared.context.ContextOf.{ContextOf}
 use Rattle.access_vectors.specs.declared.class.Class.{Class}
-use Rattle.policy_text.specs.declared.policy.KindLine.{KindLine}
-use Rattle.policy_text.specs.declared.policy.ContextLine.{ContextLine}
-use Rattle.policy_text.specs.declared.policy.PolicyParts.{PolicyParts}
-use Rattle.policy_text.specs.declared.form.Labelling.TheVariants.{Member}
-use Rattle.policy_text.specs.Above.{is_kind}
-use Rattle.policy_text.specs.Deciding.{given_kind, label_of, member_of, takes_after_maker, object_role}
-use Rattle.policy_text.specs.Kept.{Grows, is_kind_name, MayKind, MayContext, Kept}
+use Rattle.policy_model.specs.declared.policy.KindLine.{KindLine}
+use Rattle.policy_model.specs.declared.policy.ContextLine.{ContextLine}
+use Rattle.policy_model.specs.declared.policy.PolicyParts.{PolicyParts}
+use Rattle.policy_model.specs.declared.policy.Labelling.TheVariants.{Member}
+use Rattle.policy_model.specs.Declarations.{is_kind}
+use Rattle.policy_model.specs.Deciding.{given_kind, label_of, member_of, takes_after_maker, object_role}
+use Rattle.policy_model.specs.Kept.{Grows, is_kind_name, MayKind, MayContext, Kept}
 use Rattle.policy_versions.specs.Closure.{IsDerivable, declared, label, member}
 use Rattle.policy_versions.proofs.NameLemmas.{place_of_kind}
 use Rattle.policy_versions.proofs.GrowsLemmas.{grows_at}

@@ -1,15 +1,20 @@
 -- Rows of users with roles: one row more, and a row that is found.
-use Rattle.std.proofs.Common.{◌≡◌, ◌<◌, ◌≤◌, ◌∙◌, ◌⊎◌, inl, inr, ℕ, Bool, true, false, cond, ltb, List, [], ◌∷◌, ◌++◌, length, Some, None, refl, sym, ap, subst, arith, length-append}
-use Rattle.std.specs.List.{position, position_or_len}
+use Rattle.std.proofs.Common.{◌≡◌, ◌<◌, ◌≤◌, ◌∙◌, ◌⊎◌, inl, inr, ℕ, zero, suc, Bool, true, false, cond, ltb, List, [], ◌∷◌, ◌++◌, length, Some, None, refl, sym, ap, subst, arith, length-append}
+use Rattle.std.specs.Prelude.{◌&&◌, map}
+use Rattle.std.specs.List.{list_any, position, position_or_len}
+use Rattle.std.proofs.lemmas.Cmp.{nat_list_eq_equiv}
+use Rattle.std.proofs.lemmas.List.{length-map, map-append}
+use Rattle.indexmap.specs.IndexSet.{insert_key}
 use Rattle.std.specs.Str.{bytes_eq}
 use Rattle.std.proofs.lemmas.Bool.{and_parts, cases_lt, ltb-false}
 use Rattle.std.proofs.lemmas.List.{get_or_append_left, get_or_push, length_push}
 use Rattle.std.proofs.lemmas.List.Sums.{fails_before_first}
 use Rattle.std.proofs.lemmas.List.Quantifiers.{position-Some}
 use Rattle.std.proofs.lemmas.Slice.Eq.{bytes_eq-Decides}
-use Rattle.policy_text.specs.Deciding.{object_role}
+use Rattle.policy_model.specs.Deciding.{object_role}
 use Rattle.policy_versions.specs.Numbers.{row_at, object_row, is_user_role, HasObjectRow, AreRows}
-use Rattle.policy_versions.specs.Users.{IsRowOf, IsNew, HasObject}
+use Rattle.policy_versions.specs.Users.{IsRowOf, IsNew, HasObject, AreRowsBy, holders_of}
+use Rattle.policy_versions.specs.declared.user_role.Holder.{Holder}
 use Rattle.policy_versions.specs.declared.user_role.UserRole.{UserRole}
 
 -- no row
@@ -109,3 +114,35 @@ rows_more users one rows new object = record { apart = apart; objects = objects 
         by_place (inr past) =
             let last : row ≡ length users = omega (arith, length_push users one) in
             subst (HasObjectRow (users ++ one ∷ [])) (sym last) (last_object object)
+
+-- two users with their roles are the same
+abbrev pub same_holder : Holder → Holder → Bool
+same_holder a b = bytes_eq a.user b.user && bytes_eq a.role b.role
+
+holders_before : (users : List UserRole) (holder : Holder) → position_or_len (same_holder holder) (holders_of users) ≡ position_or_len (is_user_role holder.user holder.role) users
+holders_before [] holder = refl
+holders_before (one ∷ users) holder =
+    rw (nat_list_eq_equiv.symm holder.user one.user, nat_list_eq_equiv.symm holder.role one.role, holders_before users holder) refl
+
+-- a user's row by the index
+pub holder_place : (users : List UserRole) (index : List Holder) (holder : Holder) → index ≡ holders_of users → position (same_holder holder) index ≡ position (is_user_role holder.user holder.role) users
+holder_place users index holder is =
+    rw (is, holders_before users holder, length-map users (λ (one : UserRole). let key : Holder = record { user = one.user; role = one.role } in key)) refl
+
+-- a new user with a role is not in the index
+holder_new : (users : List UserRole) (holder : Holder) → IsNew users holder.user holder.role → list_any (same_holder holder) (holders_of users) ≡ false
+holder_new [] holder new = refl
+holder_new (one ∷ users) holder new =
+    let first : is_user_role holder.user holder.role one ≡ false = new 0 (omega arith) in
+    let others = holder_new users holder (λ row within. new (suc row) (omega (arith, within))) in
+    rw (nat_list_eq_equiv.symm holder.user one.user, nat_list_eq_equiv.symm holder.role one.role, first, others) refl
+
+-- one row more, in the list and in the index
+pub rows_pushed : (users : List UserRole) (index : List Holder) (holder : Holder) (object : ℕ) → AreRowsBy users index → IsNew users holder.user holder.role → HasObject users (record { user = holder.user; role = holder.role; object = object }) → AreRowsBy (users ++ record { user = holder.user; role = holder.role; object = object } ∷ []) (insert_key same_holder index holder)
+rows_pushed users index holder object rows new has =
+    let one : UserRole = record { user = holder.user; role = holder.role; object = object } in
+    let none : list_any (same_holder holder) index ≡ false = rw rows.holders (holder_new users holder new) in
+    record {
+      rows = rows_more users one rows.rows new has;
+      holders = rw (none, rows.holders) (sym (map-append (λ (u : UserRole). let key : Holder = record { user = u.user; role = u.role } in key) users (one ∷ [])));
+    }

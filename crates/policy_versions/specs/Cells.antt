@@ -2,9 +2,9 @@
 use Rattle.std.specs.Prelude.{◌≡◌, ℕ, ◌+◌, ◌<◌, ◌≤◌, List, length, slice_get, slice_index, slice_index_or, Option, Some, None}
 use Rattle.access_vectors.specs.declared.class.Class.{Class}
 use Rattle.access_vectors.specs.declared.class.Class.TheVariants.{File, Dir, Process, Port, Security}
-use Rattle.policy_text.specs.declared.policy.PolicyParts.{PolicyParts}
-use Rattle.policy_text.specs.declared.policy.RuleLine.{RuleLine}
-use Rattle.policy_text.specs.Deciding.{rules_at}
+use Rattle.policy_model.specs.declared.policy.PolicyParts.{PolicyParts}
+use Rattle.policy_model.specs.declared.policy.RuleLine.{RuleLine}
+use Rattle.policy_model.specs.Deciding.{rules_at}
 use Rattle.policy_versions.specs.declared.change.Content.{Content}
 use Rattle.policy_versions.specs.declared.row.Row.{Row}
 use Rattle.policy_versions.specs.declared.table.Table.{Table}

@@ -3,16 +3,16 @@ use Rattle.std.specs.Prelude.{◌≡◌, ℕ, ◌+◌, ◌-◌, ◌<◌, ◌≤�
 use Rattle.std.specs.List.{All}
 use Rattle.std.specs.Option.{option_map}
 use Rattle.access_vectors.specs.declared.class.Class.{Class}
-use Rattle.policy_text.specs.declared.policy.PolicyParts.{PolicyParts}
-use Rattle.policy_text.specs.declared.policy.RuleLine.{RuleLine}
-use Rattle.policy_text.specs.declared.policy.Verdict.{Verdict}
-use Rattle.policy_text.specs.declared.policy.Verdict.TheVariants.{Allow, Withhold, Transition, Member}
-use Rattle.policy_text.specs.declared.form.Labelling.TheVariants as labelling
-use Rattle.policy_text.specs.declared.policy.WhoOf.{WhoOf}
-use Rattle.policy_text.specs.Above.{is_kind}
-use Rattle.policy_text.specs.Kept.{IsRule}
-use Rattle.policy_text.specs.Matching.{matches_source, matches_target}
-use Rattle.policy_text.specs.Deciding.{decided_vector, last_said, gives_kind}
+use Rattle.policy_model.specs.declared.policy.PolicyParts.{PolicyParts}
+use Rattle.policy_model.specs.declared.policy.RuleLine.{RuleLine}
+use Rattle.policy_model.specs.declared.policy.Verdict.{Verdict}
+use Rattle.policy_model.specs.declared.policy.Verdict.TheVariants.{Allow, Withhold, Transition, Member}
+use Rattle.policy_model.specs.declared.policy.Labelling.TheVariants as labelling
+use Rattle.policy_model.specs.declared.policy.WhoOf.{WhoOf}
+use Rattle.policy_model.specs.Declarations.{is_kind}
+use Rattle.policy_model.specs.Kept.{IsRule}
+use Rattle.policy_model.specs.Matching.{matches_source, matches_target}
+use Rattle.policy_model.specs.Deciding.{decided_vector, last_said, gives_kind}
 use Rattle.policy_versions.specs.declared.change.Change.{Change}
 use Rattle.policy_versions.specs.declared.change.Content.{Content}
 use Rattle.policy_versions.specs.declared.change.Content.TheVariants.{Vectors, Given}

@@ -2,7 +2,7 @@
 use Rattle.std.specs.Prelude.{◌≡◌, ℕ, ◌<◌, true, List, length, map}
 use Rattle.std.specs.List.{All}
 use Rattle.flask_sid.specs.declared.context.ContextOf.{ContextOf}
-use Rattle.policy_text.specs.declared.policy.PolicyParts.{PolicyParts}
+use Rattle.policy_model.specs.declared.policy.PolicyParts.{PolicyParts}
 use Rattle.policy_versions.specs.Closure.{IsDerivable}
 use Rattle.policy_versions.specs.Numbers.{context_at, has_place, Derives}
 use Rattle.policy_versions.specs.declared.user_role.UserRole.{UserRole}

@@ -9,8 +9,8 @@ use Rattle.flask_sid.specs.Contexts.{context_text}
 use Rattle.flask_sid.specs.SidTables.{AreDistinct}
 use Rattle.flask_sid.specs.declared.context.ContextOf.{ContextOf}
 use Rattle.access_vectors.specs.declared.class.Class.{Class}
-use Rattle.policy_text.specs.Deciding.{label_of, member_of}
-use Rattle.policy_text.specs.declared.policy.PolicyParts.{PolicyParts}
+use Rattle.policy_model.specs.Deciding.{label_of, member_of}
+use Rattle.policy_model.specs.declared.policy.PolicyParts.{PolicyParts}
 
 -- the declared contexts, in their order
 abbrev pub declared_contexts : PolicyParts → List (ContextOf (List ℕ))

@@ -3,7 +3,7 @@ use Rattle.std.specs.Prelude.{◌≡◌, ℕ, ◌+◌, ◌*◌, ◌<◌, ◌≤�
 use Rattle.std.specs.List.{All, IsDistinct}
 use Rattle.flask_sid.specs.SidTables.{AreDistinct}
 use Rattle.flask_sid.specs.declared.context.ContextOf.{ContextOf}
-use Rattle.policy_text.specs.declared.policy.PolicyParts.{PolicyParts}
+use Rattle.policy_model.specs.declared.policy.PolicyParts.{PolicyParts}
 use Rattle.policy_versions.specs.Closure.{AreContexts}
 use Rattle.policy_versions.specs.Numbers.{AreRows}
 use Rattle.policy_versions.specs.Founds.{IsInside, is_same_place}

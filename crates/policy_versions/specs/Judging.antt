@@ -3,8 +3,8 @@ use Rattle.std.specs.Prelude.{◌≡◌, ℕ, ◌-◌, Bool, ◌&&◌, nat_lt, n
 use Rattle.flask_sid.specs.declared.context.ContextOf.{ContextOf}
 use Rattle.flask_sid.specs.SidTables.{sid_of}
 use Rattle.access_vectors.specs.Decisions.{Decisions}
-use Rattle.policy_text.specs.declared.policy.PolicyParts.{PolicyParts}
-use Rattle.policy_text.specs.Deciding.{vector_of, label_of, member_of}
+use Rattle.policy_model.specs.declared.policy.PolicyParts.{PolicyParts}
+use Rattle.policy_model.specs.Deciding.{vector_of, label_of, member_of}
 use Rattle.policy_versions.specs.declared.broken.Break.{Break}
 use Rattle.policy_versions.specs.Closure.{HasTooMany, AreContexts}
 use Rattle.policy_versions.specs.Nevers.{first_break}

@@ -2,12 +2,12 @@
 use Rattle.std.specs.Prelude.{◌≡◌, ℕ, ◌<◌, ◌≤◌, true, false, List, length, Option, MatchOption}
 use Rattle.std.specs.Str.{bytes_eq}
 use Rattle.std.specs.HashMap.{get}
-use Rattle.policy_text.specs.declared.policy.KindLine.{KindLine}
-use Rattle.policy_text.specs.declared.policy.AttributeLine.{AttributeLine}
-use Rattle.policy_text.specs.declared.policy.PolicyParts.{PolicyParts}
-use Rattle.policy_text.specs.declared.policy.WhoOf.{WhoOf}
-use Rattle.policy_text.specs.Above.{is_kind, is_attribute}
-use Rattle.policy_text.specs.Matching.{means, matches_source}
+use Rattle.policy_model.specs.declared.policy.KindLine.{KindLine}
+use Rattle.policy_model.specs.declared.policy.AttributeLine.{AttributeLine}
+use Rattle.policy_model.specs.declared.policy.PolicyParts.{PolicyParts}
+use Rattle.policy_model.specs.declared.policy.WhoOf.{WhoOf}
+use Rattle.policy_model.specs.Declarations.{is_kind, is_attribute}
+use Rattle.policy_model.specs.Matching.{means, matches_source}
 use Rattle.policy_versions.specs.declared.kind_set.KindSet.{KindSet}
 use Rattle.policy_versions.specs.declared.kinds.Kinds.{Kinds}
 use Rattle.policy_versions.specs.Sets.{has_place}

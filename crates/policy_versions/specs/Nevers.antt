@@ -4,11 +4,11 @@ use Rattle.std.specs.Option.{option_map}
 use Rattle.access_vectors.specs.declared.class.Class.{Class}
 use Rattle.access_vectors.specs.Table.{Permission, perm_count}
 use Rattle.access_vectors.specs.Vectors.{has}
-use Rattle.policy_text.specs.declared.policy.Pattern.{Pattern}
-use Rattle.policy_text.specs.declared.policy.PolicyParts.{PolicyParts}
-use Rattle.policy_text.specs.declared.policy.WhoOf.{WhoOf}
-use Rattle.policy_text.specs.Matching.{matches_target, matches_permission}
-use Rattle.policy_text.specs.Deciding.{or_else, vector_of}
+use Rattle.policy_model.specs.declared.policy.Pattern.{Pattern}
+use Rattle.policy_model.specs.declared.policy.PolicyParts.{PolicyParts}
+use Rattle.policy_model.specs.declared.policy.WhoOf.{WhoOf}
+use Rattle.policy_model.specs.Matching.{matches_target, matches_permission}
+use Rattle.policy_model.specs.Deciding.{or_else, vector_of}
 use Rattle.policy_versions.specs.declared.broken.Break.{Break}
 use Rattle.policy_versions.specs.Sets.{has_place}
 use Rattle.policy_versions.specs.Places.{kind_at}

@@ -4,9 +4,9 @@ use Rattle.std.specs.List.{list_any}
 use Rattle.std.specs.Str.{bytes_eq}
 use Rattle.flask_sid.specs.declared.context.ContextOf.{ContextOf}
 use Rattle.access_vectors.specs.declared.class.Class.{Class}
-use Rattle.policy_text.specs.declared.form.Labelling.TheVariants.{Transition}
-use Rattle.policy_text.specs.declared.policy.PolicyParts.{PolicyParts}
-use Rattle.policy_text.specs.Deciding.{takes_after_maker, object_role}
+use Rattle.policy_model.specs.declared.policy.Labelling.TheVariants.{Transition}
+use Rattle.policy_model.specs.declared.policy.PolicyParts.{PolicyParts}
+use Rattle.policy_model.specs.Deciding.{takes_after_maker, object_role}
 use Rattle.policy_versions.specs.Places.{kind_at}
 use Rattle.policy_versions.specs.Gives.{GivenPlaces}
 use Rattle.policy_versions.specs.Closure.{IsDerivable}

@@ -1,7 +1,7 @@
 -- The declared types by their places.
 use Rattle.std.specs.Prelude.{ℕ, List, [], slice_index_or}
-use Rattle.policy_text.specs.declared.policy.KindLine.{KindLine}
-use Rattle.policy_text.specs.declared.policy.PolicyParts.{PolicyParts}
+use Rattle.policy_model.specs.declared.policy.KindLine.{KindLine}
+use Rattle.policy_model.specs.declared.policy.PolicyParts.{PolicyParts}
 
 -- the name of the type at a place in a list of declarations
 abbrev pub name_at : List KindLine → ℕ → List ℕ

@@ -1,8 +1,8 @@
 -- From one context to the next: by the type of the first and the types of all others.
 use Rattle.std.specs.Prelude.{◌≡◌, ℕ, ◌<◌, ◌⊎◌, Bool, true, false, List, Some, if◌then◌else◌}
 use Rattle.access_vectors.specs.declared.class.Class.{Class}
-use Rattle.policy_text.specs.declared.form.Labelling.TheVariants.{Member}
-use Rattle.policy_text.specs.Deciding.{takes_after_maker}
+use Rattle.policy_model.specs.declared.policy.Labelling.TheVariants.{Member}
+use Rattle.policy_model.specs.Deciding.{takes_after_maker}
 use Rattle.policy_versions.specs.Gives.{GivenPlaces}
 use Rattle.policy_versions.specs.Numbers.{is_marked, has_place, made_kind, object_row}
 use Rattle.policy_versions.specs.declared.user_role.UserRole.{UserRole}

@@ -2,7 +2,7 @@
 use Rattle.std.specs.Prelude.{ℕ, ◌-◌, length, Option, Some, None, if◌then◌else◌}
 use Rattle.access_vectors.specs.declared.class.Class.{Class}
 use Rattle.access_vectors.specs.Decisions.{Decisions}
-use Rattle.policy_text.specs.declared.form.Labelling.TheVariants.{Member}
+use Rattle.policy_model.specs.declared.policy.Labelling.TheVariants.{Member}
 use Rattle.policy_versions.specs.declared.contexts.Contexts.{Contexts}
 use Rattle.policy_versions.specs.declared.vectors.VectorRows.{VectorRows}
 use Rattle.policy_versions.specs.declared.given.GivenRows.{GivenRows}

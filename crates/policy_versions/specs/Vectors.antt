@@ -1,8 +1,8 @@
 -- The vectors of a policy's versions, by the places of types.
 use Rattle.std.specs.Prelude.{◌≡◌, ℕ, ◌<◌, length}
 use Rattle.access_vectors.specs.declared.class.Class.{Class}
-use Rattle.policy_text.specs.declared.policy.PolicyParts.{PolicyParts}
-use Rattle.policy_text.specs.Deciding.{vector_of}
+use Rattle.policy_model.specs.declared.policy.PolicyParts.{PolicyParts}
+use Rattle.policy_model.specs.Deciding.{vector_of}
 use Rattle.policy_versions.specs.declared.vectors.VectorRows.{VectorRows}
 use Rattle.policy_versions.specs.Places.{kind_at}
 use Rattle.policy_versions.specs.Cells.{cell_at}

@@ -1,7 +1,7 @@
 ghost use Rattle.std.specs.Prelude.{◌≡◌, ℕ, ◌<◌, ◌&&◌, ◌==◌, ◌∷◌, ◌++◌, [], List, length};
-ghost use Rattle.policy_text.specs.declared.policy.PolicyParts.{PolicyParts};
-ghost use Rattle.policy_text.specs.declared.policy.RuleLine.{RuleLine};
-ghost use Rattle.policy_text.specs.Kept.{IsRule};
+ghost use Rattle.policy_model.specs.declared.policy.PolicyParts.{PolicyParts};
+ghost use Rattle.policy_model.specs.declared.policy.RuleLine.{RuleLine};
+ghost use Rattle.policy_model.specs.Kept.{IsRule};
 ghost use Rattle.policy_versions.specs.Sets.{has_place};
 ghost use Rattle.policy_versions.specs.Kinds.{AreKindsOf};
 ghost use Rattle.policy_versions.specs.Changes.{cell_of, AreChanged, AreMatchedChanged, AreRules, AllTell};
@@ -12,7 +12,7 @@ use crate::kinds::Kinds;
 use crate::row::Row;
 use access_vectors::Class;
 use flask_sid::Memory;
-use policy_text::{RuleLine, Who};
+use policy_model::{RuleLine, Who};
 use std::alloc::Global;
 
 /// The rows of one version and class, by the places of the sources.

@@ -15,7 +15,7 @@ use crate::steps::takes_after_maker;
 use crate::vectors::VectorRows;
 use access_vectors::{Class, Decider, Vector};
 use flask_sid::{Sid, SidTable};
-use policy_text::Labelling;
+use policy_model::Labelling;
 
 /// A compiled policy: what its versions decide, by the identifiers of its contexts. No question takes memory.
 #[derive(Drop)]

@@ -1,12 +1,12 @@
 ghost use Rattle.std.specs.Prelude.{◌≡◌, true};
-ghost use Rattle.policy_text.specs.declared.policy.PolicyParts.{PolicyParts};
-ghost use Rattle.policy_text.specs.Above.{is_kind};
+ghost use Rattle.policy_model.specs.declared.policy.PolicyParts.{PolicyParts};
+ghost use Rattle.policy_model.specs.Declarations.{is_kind};
 ghost use Rattle.policy_versions.specs.Kinds.{AreKindsOf};
 ghost use Rattle.policy_versions.specs.Changes.{GivesDeclared, PutsKind, IsChangeOf};
 
 use crate::kinds::Kinds;
 use flask_sid::Name;
-use policy_text::{Labelling, Verdict};
+use policy_model::{Labelling, Verdict};
 
 /// What the cells of a table tell.
 #[derive(Clone, Copy, Debug, PartialEq, Eq)]

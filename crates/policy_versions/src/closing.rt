@@ -13,7 +13,7 @@ use crate::found::Found;
 use crate::given::GivenRows;
 use crate::steps::Steps;
 use crate::user_role::UserRoles;
-use policy_text::PolicyText;
+use policy_model::PolicyText;
 use std::alloc::Global;
 
 /// Adds to the declared contexts all to which the policy leads. Each round takes the types of the contexts that were

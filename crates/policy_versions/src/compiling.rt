@@ -16,7 +16,7 @@ use crate::nevers::first_break;
 use crate::vectors::VectorRows;
 use access_vectors::Perm;
 use flask_sid::Memory;
-use policy_text::PolicyText;
+use policy_model::PolicyText;
 use std::alloc::Global;
 
 /// Why a policy is not compiled.

@@ -20,7 +20,7 @@ use crate::order::{context_of, in_text_order};
 use crate::place::Place;
 use crate::user_role::UserRoles;
 use flask_sid::{InternFault, Memory, SidTable};
-use policy_text::PolicyText;
+use policy_model::PolicyText;
 use std::alloc::Global;
 
 /// The contexts to which a policy leads, by identifiers and by numbers: the place of each identifier, and at each place

@@ -10,7 +10,7 @@ use crate::names::declared_kind;
 use crate::place::Place;
 use crate::user_role::UserRoles;
 use flask_sid::Memory;
-use policy_text::PolicyText;
+use policy_model::PolicyText;
 use std::alloc::Global;
 
 /// The declared contexts by numbers, in their order. Their users and roles get rows.

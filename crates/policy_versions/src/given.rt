@@ -9,7 +9,7 @@ use crate::kinds::Kinds;
 use crate::table::Table;
 use access_vectors::Class;
 use flask_sid::Memory;
-use policy_text::{Labelling, PolicyText};
+use policy_model::{Labelling, PolicyText};
 use std::alloc::Global;
 
 /// The types that all versions of a policy give.

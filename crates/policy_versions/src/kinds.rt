@@ -2,9 +2,9 @@ ghost use Rattle.std.specs.Prelude.{◌≡◌, ℕ, ◌<◌, ◌≤◌, ◌||◌
 ghost use Rattle.std.specs.List.{list_any};
 ghost use Rattle.std.specs.Str.{bytes_eq};
 ghost use Rattle.std.specs.HashMap.{get};
-ghost use Rattle.policy_text.specs.declared.policy.PolicyParts.{PolicyParts};
-ghost use Rattle.policy_text.specs.Above.{is_kind};
-ghost use Rattle.policy_text.specs.Kept.{Kept};
+ghost use Rattle.policy_model.specs.declared.policy.PolicyParts.{PolicyParts};
+ghost use Rattle.policy_model.specs.Declarations.{is_kind};
+ghost use Rattle.policy_model.specs.Kept.{Kept};
 ghost use Rattle.policy_versions.specs.Sets.{has_place};
 ghost use Rattle.policy_versions.specs.Places.{name_at};
 ghost use Rattle.policy_versions.specs.Kinds.{AreKindsOf, ArePlaces, AreSets, IsPlaceOf, IsSetOf, IsSourceSet};
@@ -12,7 +12,7 @@ ghost use Rattle.policy_versions.specs.Kinds.{AreKindsOf, ArePlaces, AreSets, Is
 use crate::kind::Kind;
 use crate::kind_set::KindSet;
 use flask_sid::{Memory, Name};
-use policy_text::{AttributeLine, KindLine, PolicyParts, PolicyText, Who};
+use policy_model::{AttributeLine, KindLine, PolicyParts, PolicyText, Who};
 use std::alloc::Global;
 use std::collections::HashMap;
 

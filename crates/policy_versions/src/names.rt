@@ -1,12 +1,12 @@
 ghost use Rattle.std.specs.Prelude.{◌≡◌, ◌<◌, true};
-ghost use Rattle.policy_text.specs.Above.{is_kind};
+ghost use Rattle.policy_model.specs.Declarations.{is_kind};
 ghost use Rattle.policy_versions.specs.Places.{name_at, kind_at};
 ghost use Rattle.policy_versions.specs.Kinds.{AreKindsOf};
 
 use crate::kind::Kind;
 use crate::kinds::Kinds;
 use flask_sid::Name;
-use policy_text::{KindLine, PolicyText};
+use policy_model::{KindLine, PolicyText};
 
 /// The name of the type at a place of a list.
 pub(crate) fn name_of(kinds: &[KindLine], kind: Kind) -> &[u8]

@@ -1,7 +1,7 @@
 ghost use Rattle.std.specs.Prelude.{◌≡◌, ℕ, ◌<◌, ◌≤◌, true, length};
 ghost use Rattle.access_vectors.specs.Table.{perm_count};
-ghost use Rattle.policy_text.specs.declared.policy.PolicyParts.{PolicyParts};
-ghost use Rattle.policy_text.specs.Matching.{matches_source, matches_target};
+ghost use Rattle.policy_model.specs.declared.policy.PolicyParts.{PolicyParts};
+ghost use Rattle.policy_model.specs.Matching.{matches_source, matches_target};
 ghost use Rattle.policy_versions.specs.Places.{kind_at};
 ghost use Rattle.policy_versions.specs.Kinds.{AreKindsOf};
 ghost use Rattle.policy_versions.specs.Vectors.{AreVectorsOf};
@@ -14,7 +14,7 @@ use crate::kind_set::KindSet;
 use crate::kinds::Kinds;
 use crate::vectors::VectorRows;
 use access_vectors::{Class, Perm, Vector};
-use policy_text::{Pattern, PolicyParts, PolicyText, Who};
+use policy_model::{Pattern, PolicyParts, PolicyText, Who};
 
 /// How a policy's versions break a `neverallow` line first, by version, then line, source, target and permission. `None`
 /// exactly where no version breaks one.

@@ -10,7 +10,7 @@ use crate::names::name_of;
 use crate::place::Place;
 use crate::user_role::UserRoles;
 use flask_sid::{Context, ContextOf, Memory, Name, Word};
-use policy_text::PolicyText;
+use policy_model::PolicyText;
 use std::alloc::Global;
 
 /// The text of a context, and the position of its place in a list.

@@ -1,6 +1,6 @@
 ghost use Rattle.std.specs.Prelude.{◌≡◌, ℕ, ◌<◌, false, true, length, Some, IfOk, if◌then◌else◌};
-ghost use Rattle.policy_text.specs.declared.form.Labelling.TheVariants as labelling;
-ghost use Rattle.policy_text.specs.Deciding as decide;
+ghost use Rattle.policy_model.specs.declared.policy.Labelling.TheVariants as labelling;
+ghost use Rattle.policy_model.specs.Deciding as decide;
 ghost use Rattle.policy_versions.specs.Numbers.{is_marked, made_kind};
 ghost use Rattle.policy_versions.specs.Given.{given_at};
 ghost use Rattle.policy_versions.specs.Steps.{StayMarked, TakesClass, Takes, TakesTargets, TakesSources, TakesVersions, OnlyGives, AreDue};
@@ -10,7 +10,7 @@ use crate::kind::Kind;
 use crate::marks::Marks;
 use access_vectors::Class;
 use flask_sid::Memory;
-use policy_text::Labelling;
+use policy_model::Labelling;
 use std::alloc::Global;
 
 /// The steps from a context to others that some version of a policy and some target make, by the types of both

@@ -1,5 +1,5 @@
 ghost use Rattle.std.specs.Prelude.{◌≡◌, ℕ, ◌+◌, ◌<◌, ◌≤◌, length, slice_index, IfOk, OnOk, IsTrue, MatchOption};
-ghost use Rattle.policy_text.specs.declared.policy.PolicyParts.{PolicyParts};
+ghost use Rattle.policy_model.specs.declared.policy.PolicyParts.{PolicyParts};
 ghost use Rattle.policy_versions.specs.Kinds.{AreKindsOf};
 ghost use Rattle.policy_versions.specs.Changes.{AreRules};
 ghost use Rattle.policy_versions.specs.Cells.{cell_at, class_place, StandsAt, KeepsRows, AllTellFrom, TableTells};
@@ -11,7 +11,7 @@ use crate::kinds::Kinds;
 use crate::row::Row;
 use access_vectors::Class;
 use flask_sid::Memory;
-use policy_text::{PolicyText, RuleLine};
+use policy_model::{PolicyText, RuleLine};
 use std::alloc::Global;
 
 /// The rows of every version and class: 128 rows for each, one for each source. A class that has the rows of the

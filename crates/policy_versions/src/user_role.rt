@@ -1,10 +1,12 @@
+//! Users with their roles, by rows.
+
 ghost use Rattle.std.specs.Prelude.{◌≡◌, ◌+◌, ◌<◌, ◌≤◌, length, IfOk, MatchOption};
-ghost use Rattle.std.specs.List.{position};
-ghost use Rattle.policy_text.specs.Deciding.{object_role};
-ghost use Rattle.policy_versions.specs.Numbers.{is_user_role, object_row, row_at, AreRows};
+ghost use Rattle.policy_model.specs.Deciding.{object_role};
+ghost use Rattle.policy_versions.specs.Numbers.{object_row, row_at, AreRows};
 ghost use Rattle.policy_versions.specs.Users.{IsRowOf, IsNew, HasObject, HasFront};
 
 use flask_sid::{Context, Memory, Name, Word};
+use indexmap::IndexSet;
 use std::alloc::Global;
 use std::marker::Model;
 
@@ -16,22 +18,31 @@ pub(crate) struct UserRole {
     pub(crate) object: u16,
 }
 
-/// The rows of contexts: each user with a role has one, and so has each user with the role of objects.
-#[derive(Debug, Drop)]
+/// A user with a role, as the key of an index.
+#[derive(Debug, Drop, PartialEq, Eq, Hash)]
+pub(crate) struct Holder {
+    user: Name,
+    role: Name,
+}
+
+/// The rows of contexts: each user with a role has one, and so has each user with the role of objects. The index has the row of
+/// each.
+#[derive(Drop)]
 pub(crate) struct UserRoles {
     rows: Vec<UserRole>,
+    holders: IndexSet<Holder>,
 }
 
 impl Model for UserRoles {
     ghost use Rattle.std.specs.Prelude.{List};
     ghost use Rattle.policy_versions.specs.declared.user_role.UserRole.{UserRole};
-    ghost use Rattle.policy_versions.specs.Numbers.{AreRows};
+    ghost use Rattle.policy_versions.specs.Users.{AreRowsBy};
 
     ghost Value = { List UserRole };
 
     ghost view = { λ users. users.rows.items };
 
-    ghost invariant = { λ users. AreRows users.rows.items };
+    ghost invariant = { λ users. AreRowsBy users.rows.items users.holders.keys };
 }
 
 impl UserRoles {
@@ -41,6 +52,7 @@ impl UserRoles {
     {
         UserRoles {
             rows: Vec::new(alloc),
+            holders: IndexSet::new(alloc),
         }
     }
 
@@ -60,12 +72,14 @@ impl UserRoles {
         ensures row { IfOk result (λ row. IsRowOf self.new row context.now.user context.now.role) }
     {
         let object = self.object_row(alloc, &context.user)?;
-        if let Some(row) = self.find(context.user.as_bytes(), context.role.as_bytes()) {
-            return Ok(row);
+        let holder = Holder {
+            user: context.user.copy(alloc)?,
+            role: context.role.copy(alloc)?,
+        };
+        match self.find(&holder) {
+            Some(row) => Ok(row),
+            None => self.push(alloc, holder, object),
         }
-        let user = context.user.copy(alloc)?;
-        let role = context.role.copy(alloc)?;
-        self.push(UserRole { user, role, object })
     }
 
     fn object_row(&mut self, alloc: Global, user: &Name) -> Result<u16, Memory>
@@ -74,36 +88,47 @@ impl UserRoles {
         ensures few { length self.new ≤ length self.old + 1 }
         ensures row { IfOk result (λ row. IsRowOf self.new row user.now object_role) }
     {
-        if let Some(row) = self.find(user.as_bytes(), b"object_r".as_slice()) {
-            return Ok(row);
+        let holder = Holder {
+            user: user.copy(alloc)?,
+            role: Name::of(alloc, &Word::new(b"object_r"))?,
+        };
+        match self.find(&holder) {
+            Some(row) => Ok(row),
+            None => {
+                let object = self.len() as u16;
+                self.push(alloc, holder, object)
+            }
         }
-        let object = self.len() as u16;
-        let role = Name::of(alloc, &Word::new(b"object_r"))?;
-        let user = user.copy(alloc)?;
-        self.push(UserRole { user, role, object })
     }
 
-    fn find(&self, user: &[u8], role: &[u8]) -> Option<u16>
+    fn find(&self, holder: &Holder) -> Option<u16>
         requires { length self.now < 65536 }
-        ensures { MatchOption result (IsNew self.now user.now role.now) (λ row. IsRowOf self.now row user.now role.now) }
+        ensures { MatchOption result (IsNew self.now holder.now.user holder.now.role) (λ row. IsRowOf self.now row holder.now.user holder.now.role) }
     {
-        match row_of(self.rows.as_slice(), user, role) {
+        match self.holders.get_index_of(holder) {
             Some(row) => Some(row as u16),
             None => None,
         }
     }
 
-    fn push(&mut self, row: UserRole) -> Result<u16, Memory>
+    // The list has room before the index grows, so that both grow or neither does.
+    fn push(&mut self, alloc: Global, holder: Holder, object: u16) -> Result<u16, Memory>
         requires few { length self.old < 65535 }
-        requires new { IsNew self.old row.user row.role }
-        requires object { HasObject self.old row }
+        requires new { IsNew self.old holder.user holder.role }
+        requires object { HasObject self.old (record { user = holder.user; role = holder.role; object = object }) }
         ensures front { HasFront self.new self.old }
         ensures few { length self.new ≤ length self.old + 1 }
-        ensures row { IfOk result (λ number. IsRowOf self.new number row.user row.role) }
+        ensures row { IfOk result (λ number. IsRowOf self.new number holder.user holder.role) }
     {
         let number = self.rows.len() as u16;
-        self.rows.push(row)?;
-        Ok(number)
+        let user = holder.user.copy(alloc)?;
+        let role = holder.role.copy(alloc)?;
+        self.rows.reserve(1)?;
+        self.holders.insert(holder)?;
+        match self.rows.push(UserRole { user, role, object }) {
+            Ok(()) => Ok(number),
+            Err(_refused) => unreachable!(),
+        }
     }
 
     /// The user and the role of a row.
@@ -114,10 +139,4 @@ impl UserRoles {
     {
         &self.rows[usize::from(row)]
     }
-}
-
-fn row_of(users: &[UserRole], user: &[u8], role: &[u8]) -> Option<usize>
-    ensures { result ≡ position (is_user_role user.now role.now) users.now }
-{
-    users.iter().position(|one| one.user.as_bytes() == user && one.role.as_bytes() == role)
 }

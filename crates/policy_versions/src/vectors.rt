@@ -10,7 +10,7 @@ use crate::kinds::Kinds;
 use crate::table::Table;
 use access_vectors::{Class, Vector};
 use flask_sid::Memory;
-use policy_text::PolicyText;
+use policy_model::PolicyText;
 use std::alloc::Global;
 
 /// The vectors of all versions of a policy.

@@ -1,3 +1,4 @@
 pub mod WordLemmas
 pub mod FormedLemmas
 pub mod SetupLemmas
+pub mod PathLemmas

@@ -1,6 +1,6 @@
 -- Paths, as the texts write them.
-use Rattle.std.specs.Prelude.{ℕ, Bool, ◌&&◌, ◌||◌, not, ◌==◌, nat_lt, List, [], ◌∷◌, length, Option, Some, None, if◌then◌else◌, codes}
-use Rattle.std.specs.List.{list_all, list_any, slice_split}
+use Rattle.std.specs.Prelude.{◌≡◌, ℕ, ◌+◌, ◌<◌, Bool, false, ◌&&◌, ◌||◌, not, ◌==◌, nat_lt, List, [], ◌∷◌, length, slice_index, drop, Option, Some, None, if◌then◌else◌, codes}
+use Rattle.std.specs.List.{All, list_all, list_any, slice_split}
 use Rattle.std.specs.Str.{bytes_eq}
 use Rattle.flask_sid.specs.Names.{is_long}
 use Rattle.file_calls.specs.Formed.{is_path_byte}
@@ -27,3 +27,17 @@ is_long_path parts = nat_lt 16 (length parts) || list_any is_long parts
 abbrev pub parts_left : Option (List ℕ) → List (List ℕ)
 parts_left None = []
 parts_left (Some rest) = slice_split (λ c. c == 47) rest
+
+-- the byte between two parts
+abbrev pub is_slash : ℕ → Bool
+is_slash c = c == 47
+
+-- a text of one part
+abbrev pub HasNoSlash : List ℕ → Type 0
+HasNoSlash text = All (λ c. is_slash c ≡ false) text
+
+-- the last part of a text stands behind this place
+pub record IsLastSlash (text : List ℕ) (at : ℕ) : Type 0 where
+  pub within : at < length text
+  pub slash : slice_index text at ≡ 47
+  pub last : HasNoSlash (drop (at + 1) text)

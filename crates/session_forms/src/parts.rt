@@ -1,8 +1,13 @@
+//! Paths, as the texts write them.
+
 ghost use Rattle.std.specs.Prelude.{◌≡◌, [], ◌∷◌, nat_lt, length, IfOk, MatchOption};
-ghost use Rattle.std.specs.List.{list_all, list_any};
+ghost use Rattle.std.specs.List.{list_all, list_any, slice_split};
+ghost use Rattle.std.specs.Option.{option_map};
 ghost use Rattle.flask_sid.specs.Names;
 ghost use Rattle.file_calls.specs.Formed;
+ghost use Rattle.file_calls.specs.Openings.{parent_of};
 ghost use Rattle.session_forms.specs.PathForms;
+ghost use Rattle.session_forms.specs.PathForms.{HasNoSlash, IsLastSlash, is_slash, parts_left};
 ghost use Rattle.session_forms.specs.Arguments;
 
 use file_calls::FilePath;
@@ -69,6 +74,28 @@ impl<'a> Parts<'a> {
                     self.rest = Some(more);
                     Some(part)
                 }
+            },
+        }
+    }
+
+    /// The text of the path behind its first `/`, or `None` for the root.
+    pub(crate) fn text(&self) -> Option<Word<'a>>
+        ensures { MatchOption result (self.now ≡ []) (λ text. self.now ≡ slice_split PathForms.is_slash text) }
+    {
+        match self.rest {
+            None => None,
+            Some(rest) => Some(Word::new(rest)),
+        }
+    }
+
+    /// The path of the directory in which this path stands, and for the root the root.
+    pub fn above(&self) -> Parts<'a>
+        ensures { result ≡ parent_of self.now }
+    {
+        match self.rest {
+            None => Parts { rest: None },
+            Some(rest) => Parts {
+                rest: text_above(rest),
             },
         }
     }
@@ -186,4 +213,31 @@ fn is_path_byte(b: u8) -> bool
         || b == b'.'
         || b == b'_'
         || b == b'-'
+}
+
+// The text of a path without its last part, or `None` where that is the only one.
+fn text_above(text: &[u8]) -> Option<&[u8]>
+    ensures { parts_left (option_map (λ front. front.now) result) ≡ parent_of (slice_split is_slash text.now) }
+{
+    match last_slash(text) {
+        None => None,
+        Some(at) => {
+            let (front, _back) = text.split_at(at);
+            Some(front)
+        }
+    }
+}
+
+// The place of the last `/` of a text.
+fn last_slash(text: &[u8]) -> Option<usize>
+    ensures { MatchOption result (HasNoSlash text.now) (IsLastSlash text.now) }
+{
+    let mut at = text.len();
+    'bytes: while at > 0 {
+        at -= 1;
+        if text[at] == b'/' {
+            return Some(at);
+        }
+    }
+    None
 }

@@ -4,8 +4,8 @@ use Rattle.std.specs.Prelude.{◌==◌, decimal}
 use Rattle.std.specs.Str.{bytes_eq}
 use Rattle.std.proofs.lemmas.Bool.{cond_both, false_from_ne_true}
 use Rattle.std.proofs.lemmas.Slice.Eq.{bytes_eq-Decides}
-use Rattle.policy_text.specs.Kept.{Grows}
-use Rattle.policy_text.proofs.GrowsLemmas.{grows_snoc, none_snoc}
+use Rattle.policy_model.specs.Kept.{Grows}
+use Rattle.policy_model.proofs.GrowsLemmas.{grows_snoc, none_snoc}
 use Rattle.session_text.specs.Above.{has_client}
 use Rattle.session_text.specs.Sessions.{IsSidOf, MayClient}
 use Rattle.session_generator.specs.Generated.{policy, client_of, clients_to}

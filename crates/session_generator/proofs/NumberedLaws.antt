@@ -10,7 +10,7 @@ use Rattle.flask_sid.specs.Names.{is_name_byte, is_lower, is_name_form, is_name,
 use Rattle.text_lines.specs.Lines.{is_word_byte}
 use Rattle.text_lines.specs.Numerals.{is_digit, numeral_of}
 use Rattle.text_print.proofs.NumeralLaws.{numeral_of_decimal}
-use Rattle.policy_text.proofs.GrowsLemmas.{all_more}
+use Rattle.policy_model.proofs.GrowsLemmas.{all_more}
 use Rattle.file_calls.specs.Formed.{IsPart, IsPath, is_path_byte}
 use Rattle.session_generator.specs.Generated.{numbered, path_of}
 

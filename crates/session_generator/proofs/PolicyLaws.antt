@@ -2,7 +2,7 @@
 use Rattle.std.proofs.Common.{◌≡◌, ◌∙◌, ℕ, ◌<◌, ◌≤◌, List, length, Ok, Err, refl, sym, ap}
 use Rattle.text_lines.specs.ResultSteps.{LineFault}
 use Rattle.policy_text.specs.Grammar.{policy_of}
-use Rattle.policy_text.specs.declared.policy.PolicyParts.{PolicyParts}
+use Rattle.policy_model.specs.declared.policy.PolicyParts.{PolicyParts}
 use Rattle.policy_text.proofs.OnLiterals.{policies_on_literals}
 use Rattle.session_text.specs.Sessions.{IsSidOf}
 use Rattle.session_generator.specs.Generated.{policy_text, policy}

@@ -3,7 +3,7 @@ use Rattle.std.proofs.Common.{◌≡◌, ◌∙◌, ◌<◌, ◌+◌, ℕ, zero,
 use Rattle.std.proofs.lemmas.List.Elements.{All-append, All-cons, All-nil}
 use Rattle.std.proofs.lemmas.List.{append-nil}
 use Rattle.command_line.specs.Commands.{IsWithin}
-use Rattle.policy_text.specs.Kept.{Grows}
+use Rattle.policy_model.specs.Kept.{Grows}
 use Rattle.session_text.specs.declared.session.Run.{Run}
 use Rattle.session_text.specs.declared.session.RunLine.{RunLine}
 use Rattle.session_text.specs.Sessions.{IsSidOf, IsRun, MayLine, IsSession}

@@ -1,7 +1,7 @@
 -- The sessions that are made from three numbers: a seed, how many clients, and how many lines that run.
 use Rattle.std.specs.Prelude.{ℕ, zero, suc, ◌+◌, ◌*◌, ◌/◌, ◌%◌, false, ◌==◌, List, [], ◌∷◌, ◌++◌, if◌then◌else◌, codes, decimal, Result, Ok, Err}
 use Rattle.text_lines.specs.ResultSteps.{LineFault}
-use Rattle.policy_text.specs.declared.policy.PolicyParts.{PolicyParts}
+use Rattle.policy_model.specs.declared.policy.PolicyParts.{PolicyParts}
 use Rattle.policy_text.specs.Grammar.{policy_of, no_parts}
 use Rattle.file_calls.specs.declared.call.FileCall.TheVariants as file
 use Rattle.process_calls.specs.declared.call.ProcessCall.TheVariants as process

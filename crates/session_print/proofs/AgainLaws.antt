@@ -11,9 +11,9 @@ use Rattle.text_print.specs.Printed.{is_word, spaced}
 use Rattle.text_print.proofs.WordLaws.{line_words_spaced}
 use Rattle.text_print.proofs.LineLaws.{lines_of_text}
 use Rattle.text_print.proofs.LeadLaws.{AllLead, lead_words, lead_lines}
-use Rattle.policy_text.specs.declared.policy.PolicyParts.{PolicyParts}
+use Rattle.policy_model.specs.declared.policy.PolicyParts.{PolicyParts}
 use Rattle.policy_text.specs.Grammar.{line_read}
-use Rattle.policy_text.specs.Kept.{Kept}
+use Rattle.policy_model.specs.Kept.{Kept}
 use Rattle.policy_text.specs.Reading.{begun as policy_begun}
 use Rattle.policy_print.specs.Printed.{policy_lines}
 use Rattle.policy_print.specs.Same.{IsSamePolicy, IsSameAbove}
@@ -23,7 +23,7 @@ use Rattle.policy_print.proofs.PolicyLaws.{policy_lines_lead, policy_lines_words
 use Rattle.policy_print.proofs.SaidLaws.{policy_lines_said}
 use Rattle.session_forms.specs.SetupForms.{setup_form}
 use Rattle.session_text.specs.declared.session.SessionParts.{SessionParts}
-use Rattle.session_text.specs.declared.reader.SessionReader.TheVariants as reader
+use Rattle.session_text.specs.Readers as reader
 use Rattle.session_text.specs.Grammar.{Setup, run_line_read}
 use Rattle.session_text.specs.Reading.{is_session_line, setup_of_policy, is_alone, session_line_read, setup_read, setup_words_read, setup_line_read, read_line, read_lines, session_of}
 use Rattle.session_text.specs.Sessions.{MayLine, IsSession}

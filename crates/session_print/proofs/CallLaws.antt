@@ -5,7 +5,7 @@ use Rattle.std.specs.List.{list_all}
 use Rattle.std.proofs.lemmas.Bool.{ne_eqb}
 use Rattle.text_lines.specs.Lines.{is_comment}
 use Rattle.text_print.specs.Printed.{is_word}
-use Rattle.policy_text.specs.declared.policy.PolicyParts.{PolicyParts}
+use Rattle.policy_model.specs.declared.policy.PolicyParts.{PolicyParts}
 use Rattle.policy_print.specs.Same.{IsSamePolicy}
 use Rattle.session_forms.specs.RunForms.{asked_form}
 use Rattle.session_forms.specs.Ranges.{is_past_call}

@@ -6,9 +6,9 @@ use Rattle.access_vectors.specs.declared.class.Class.TheVariants as class
 use Rattle.access_vectors.specs.Table.{perm_word}
 use Rattle.access_vectors.specs.Vectors.{has}
 use Rattle.flask_sid.specs.Contexts.{context_text}
-use Rattle.policy_text.specs.declared.policy.PolicyParts.{PolicyParts}
-use Rattle.policy_text.specs.declared.policy.WhoOf.TheVariants.{Named}
-use Rattle.policy_text.specs.declared.policy.Verdict.TheVariants.{Allow}
+use Rattle.policy_model.specs.declared.policy.PolicyParts.{PolicyParts}
+use Rattle.policy_model.specs.declared.policy.WhoOf.TheVariants.{Named}
+use Rattle.policy_model.specs.declared.policy.Verdict.TheVariants.{Allow}
 use Rattle.policy_print.specs.Printed.{held_names, policy_lines}
 use Rattle.file_calls.specs.declared.call.FileCall.TheVariants as file
 use Rattle.process_calls.specs.declared.call.ProcessCall.TheVariants as process

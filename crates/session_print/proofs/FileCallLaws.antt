@@ -1,8 +1,8 @@
 -- Calls of the file manager that were printed are read as those calls.
 use Rattle.std.proofs.Common.{ℕ, length, List, [], refl, arith}
 use Rattle.std.proofs.lemmas.Bool.{le-ltb}
-use Rattle.policy_text.specs.declared.policy.PolicyParts.{PolicyParts}
-use Rattle.policy_text.specs.Kept.{Grows, Grown}
+use Rattle.policy_model.specs.declared.policy.PolicyParts.{PolicyParts}
+use Rattle.policy_model.specs.Kept.{Grows, Grown}
 use Rattle.policy_print.proofs.FieldLaws.{name_short}
 use Rattle.text_print.proofs.NameLaws.{form_of_name, name_is_word}
 use Rattle.file_calls.specs.Formed.{IsCall}

@@ -12,10 +12,10 @@ use Rattle.flask_sid.specs.Contexts.{context_form, is_long_context}
 use Rattle.flask_sid.specs.declared.context.ContextOf.{ContextOf}
 use Rattle.text_print.specs.Printed.{is_word}
 use Rattle.text_print.proofs.NameLaws.{form_of_name, context_form_text, context_is_word}
-use Rattle.policy_text.specs.declared.policy.ContextLine.{ContextLine}
-use Rattle.policy_text.specs.declared.policy.PolicyParts.{PolicyParts}
-use Rattle.policy_text.specs.Above.{same_context, has_context, context_limit}
-use Rattle.policy_text.specs.Kept.{Grows, MayContext, Grown, is_kind_name}
+use Rattle.policy_model.specs.declared.policy.ContextLine.{ContextLine}
+use Rattle.policy_model.specs.declared.policy.PolicyParts.{PolicyParts}
+use Rattle.policy_model.specs.Declarations.{same_context, has_context, context_limit}
+use Rattle.policy_model.specs.Kept.{Grows, MayContext, Grown, is_kind_name}
 use Rattle.policy_print.specs.Same.{IsSamePolicy}
 use Rattle.policy_print.proofs.SameLaws.{context_place_same}
 use Rattle.policy_print.proofs.FieldLaws.{declared_kind, kind_form, kind_short, name_short}

@@ -1,7 +1,7 @@
 -- Calls of the port manager that were printed are read as those calls.
 use Rattle.std.proofs.Common.{ℕ, List, refl, arith}
 use Rattle.std.proofs.lemmas.Bool.{le-ltb}
-use Rattle.policy_text.specs.declared.policy.PolicyParts.{PolicyParts}
+use Rattle.policy_model.specs.declared.policy.PolicyParts.{PolicyParts}
 use Rattle.port_calls.specs.Formed.{IsCall}
 use Rattle.port_calls.specs.declared.call.PortCall.{PortCall}
 use Rattle.port_calls.specs.declared.call.PortCall.TheVariants as call

@@ -1,8 +1,8 @@
 -- Calls of the process manager that were printed are read as those calls.
 use Rattle.std.proofs.Common.{ℕ, List, refl, arith}
 use Rattle.std.proofs.lemmas.Bool.{le-ltb}
-use Rattle.policy_text.specs.declared.policy.PolicyParts.{PolicyParts}
-use Rattle.policy_text.specs.Kept.{Grown}
+use Rattle.policy_model.specs.declared.policy.PolicyParts.{PolicyParts}
+use Rattle.policy_model.specs.Kept.{Grown}
 use Rattle.process_calls.specs.Formed.{IsCall}
 use Rattle.process_calls.specs.declared.call.ProcessCall.{ProcessCall}
 use Rattle.process_calls.specs.declared.call.ProcessCall.TheVariants as call

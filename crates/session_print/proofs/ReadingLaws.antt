@@ -10,13 +10,13 @@ use Rattle.text_lines.specs.Lines.{is_comment, line_words}
 use Rattle.text_lines.specs.ResultSteps.{◌>>=◌, at_line, lines_fold}
 use Rattle.text_print.specs.Printed.{is_word, spaced}
 use Rattle.text_print.proofs.WordLaws.{words_of_spaced}
-use Rattle.policy_text.specs.declared.policy.PolicyParts.{PolicyParts}
+use Rattle.policy_model.specs.declared.policy.PolicyParts.{PolicyParts}
 use Rattle.policy_text.specs.Grammar.{line_read}
 use Rattle.policy_text.specs.Reading.{read_on}
 use Rattle.policy_print.proofs.SaidLaws.{is_said}
 use Rattle.session_text.specs.declared.session.SessionParts.{SessionParts}
-use Rattle.session_text.specs.declared.reader.SessionReader.{SessionReader}
-use Rattle.session_text.specs.declared.reader.SessionReader.TheVariants as reader
+use Rattle.session_text.specs.Readers.{SessionReader}
+use Rattle.session_text.specs.Readers as reader
 use Rattle.session_text.specs.Grammar.{Setup, run_line_read}
 use Rattle.session_text.specs.Progress.{SetupReading}
 use Rattle.session_text.specs.Reading.{is_session_line, setup_words_read, setup_line_read, run_on, read_line, read_end, read_lines}

@@ -10,7 +10,7 @@ use Rattle.text_print.specs.Printed.{is_word}
 use Rattle.text_print.proofs.NameLaws.{form_of_name, name_is_word, name_is_no_comment}
 use Rattle.text_print.proofs.WordLaws.{line_words_spaced}
 use Rattle.text_print.proofs.LeadLaws.{Leads}
-use Rattle.policy_text.specs.Kept.{Grows, Grown}
+use Rattle.policy_model.specs.Kept.{Grows, Grown}
 use Rattle.policy_print.proofs.SameLaws.{same_snoc}
 use Rattle.policy_print.proofs.FieldLaws.{name_short}
 use Rattle.session_forms.specs.Arguments.{only_word, only_number}

@@ -13,7 +13,7 @@ use Rattle.text_print.specs.Printed.{is_word}
 use Rattle.text_print.proofs.NameLaws.{form_of_name, name_is_word}
 use Rattle.text_print.proofs.WordLaws.{line_words_spaced}
 use Rattle.text_print.proofs.LeadLaws.{Leads}
-use Rattle.policy_text.specs.Kept.{Grown}
+use Rattle.policy_model.specs.Kept.{Grown}
 use Rattle.policy_print.proofs.FieldLaws.{name_short}
 use Rattle.file_calls.specs.Openings.{has_node, is_parent_there}
 use Rattle.file_calls.specs.declared.opening.Node.{Node}
@@ -26,8 +26,8 @@ use Rattle.session_forms.specs.declared.setup_forms.SetupForm.{SetupForm}
 use Rattle.session_forms.specs.declared.setup_forms.SetupForm.TheVariants as form
 use Rattle.session_text.specs.declared.session.ClientLine.{ClientLine}
 use Rattle.session_text.specs.declared.session.SessionParts.{SessionParts}
-use Rattle.session_text.specs.declared.reader.SessionReader.{SessionReader}
-use Rattle.session_text.specs.declared.reader.SessionReader.TheVariants as reader
+use Rattle.session_text.specs.Readers.{SessionReader}
+use Rattle.session_text.specs.Readers as reader
 use Rattle.session_text.specs.Above.{node_limit, port_limit, client_limit, has_port, has_client}
 use Rattle.session_text.specs.Grammar.{Setup, set_up, with_root, with_initial_port, with_audit, with_port, with_node, with_client, is_past_node, is_taken, node_sid, file_read, directory_read, is_past_client, is_named, client_sid, client_read, initial_with, initial_read, audit_read, is_past_port_line, port_with, port_read}
 use Rattle.session_text.specs.Reading.{setup_read, below_setup, setup_words_read}

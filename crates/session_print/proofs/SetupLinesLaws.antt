@@ -2,7 +2,7 @@
 use Rattle.std.proofs.Common.{ℕ, Bool, true, false, List, [], ◌∷◌, ◌++◌, map, refl}
 use Rattle.std.specs.Prelude.{codes}
 use Rattle.text_print.proofs.LeadLaws.{AllLead, lead_append}
-use Rattle.policy_text.specs.Kept.{Grown}
+use Rattle.policy_model.specs.Kept.{Grown}
 use Rattle.policy_print.proofs.LeadLaws.{grown_lead}
 use Rattle.file_calls.specs.declared.opening.Node.{Node}
 use Rattle.port_calls.specs.declared.opening.LabelledPort.{LabelledPort}

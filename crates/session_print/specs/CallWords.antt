@@ -1,6 +1,6 @@
 -- The words of each call, behind its client and its manager.
 use Rattle.std.specs.Prelude.{ℕ, List, [], ◌∷◌, decimal, codes}
-use Rattle.policy_text.specs.declared.policy.ContextLine.{ContextLine}
+use Rattle.policy_model.specs.declared.policy.ContextLine.{ContextLine}
 use Rattle.file_calls.specs.declared.call.FileCall.{FileCall}
 use Rattle.file_calls.specs.declared.call.FileCall.TheVariants as file
 use Rattle.process_calls.specs.declared.call.ProcessCall.{ProcessCall}

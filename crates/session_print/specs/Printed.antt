@@ -1,7 +1,7 @@
 -- The text of a session: its policy, `session`, what is there at the start, the clients, `run`, and the lines that run.
 use Rattle.std.specs.Prelude.{ℕ, Bool, true, false, List, [], ◌∷◌, ◌++◌, map, Option, Some, None, decimal, codes}
 use Rattle.text_print.specs.Printed.{text_of}
-use Rattle.policy_text.specs.declared.policy.ContextLine.{ContextLine}
+use Rattle.policy_model.specs.declared.policy.ContextLine.{ContextLine}
 use Rattle.policy_print.specs.Printed.{policy_lines}
 use Rattle.file_calls.specs.declared.opening.Node.{Node}
 use Rattle.port_calls.specs.declared.opening.LabelledPort.{LabelledPort}

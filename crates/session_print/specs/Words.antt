@@ -2,7 +2,7 @@
 use Rattle.std.specs.Prelude.{ℕ, ◌-◌, ◌==◌, List, [], ◌∷◌, Option, Some, None, slice_get, if◌then◌else◌, codes}
 use Rattle.std.specs.List.{flat_map}
 use Rattle.flask_sid.specs.Contexts.{context_text}
-use Rattle.policy_text.specs.declared.policy.ContextLine.{ContextLine}
+use Rattle.policy_model.specs.declared.policy.ContextLine.{ContextLine}
 use Rattle.session_forms.specs.declared.run_forms.Manager.{Manager}
 use Rattle.session_forms.specs.declared.run_forms.Manager.TheVariants.{File, Process, Port}
 use Rattle.session_text.specs.declared.session.ClientLine.{ClientLine}

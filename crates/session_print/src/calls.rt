@@ -10,7 +10,7 @@ use crate::words::{client_name, put_bind_mode, put_connect_mode, put_label, put_
 use access_vectors::Vector;
 use file_calls::{FileCall, FilePath};
 use flask_sid::{Memory, Piece, Sid};
-use policy_text::ContextLine;
+use policy_model::ContextLine;
 use port_calls::PortCall;
 use process_calls::ProcessCall;
 use session_text::ClientLine;

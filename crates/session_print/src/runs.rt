@@ -9,7 +9,7 @@ ghost use Rattle.session_print.specs.Printed;
 use crate::calls::{put_file_call, put_port_call, put_process_call};
 use crate::words::{client_name, put_manager};
 use flask_sid::{Memory, Piece};
-use policy_text::ContextLine;
+use policy_model::ContextLine;
 use session_forms::Manager;
 use session_text::{ClientLine, Run, RunLine};
 use text_print::{put_numeral, put_word};

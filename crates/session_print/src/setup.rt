@@ -9,7 +9,7 @@ ghost use Rattle.session_print.specs.Printed;
 use crate::words::{put_label, put_path};
 use file_calls::Node;
 use flask_sid::{Memory, Piece, Sid};
-use policy_text::ContextLine;
+use policy_model::ContextLine;
 use port_calls::LabelledPort;
 use session_text::{ClientLine, SessionParts};
 use text_print::{put_numeral, put_word};

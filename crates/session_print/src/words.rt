@@ -8,7 +8,7 @@ ghost use Rattle.session_print.specs.Words;
 use access_vectors::Vector;
 use file_calls::FilePath;
 use flask_sid::{Memory, Piece, Sid};
-use policy_text::ContextLine;
+use policy_model::ContextLine;
 use session_forms::Manager;
 use session_text::ClientLine;
 use text_print::{put_context, put_word};

@@ -7,8 +7,8 @@ use Rattle.flask_sid.specs.Contexts.{is_long_context}
 use Rattle.text_lines.specs.declared.fault.FaultKind.{FaultKind}
 use Rattle.text_lines.specs.declared.fault.FaultKind.TheVariants.{Unknown, Undeclared}
 use Rattle.text_lines.specs.ResultSteps.{◌>>=◌, found_or}
-use Rattle.policy_text.specs.declared.policy.ContextLine.{ContextLine}
-use Rattle.policy_text.proofs.GrowsLemmas.{after}
+use Rattle.policy_model.specs.declared.policy.ContextLine.{ContextLine}
+use Rattle.policy_text.proofs.StepLemmas.{after}
 use Rattle.file_calls.specs.Formed.{IsCall}
 use Rattle.file_calls.specs.declared.call.FileCall.{FileCall}
 use Rattle.file_calls.specs.declared.call.FileCall.TheVariants as call

@@ -1,8 +1,8 @@
 -- A session that grows by a line still is one.
 use Rattle.std.proofs.Common.{ℕ, List, [], Option, refl, arith}
-use Rattle.policy_text.specs.Kept.{Kept}
-use Rattle.policy_text.specs.declared.policy.PolicyParts.{PolicyParts}
-use Rattle.policy_text.proofs.GrowsLemmas.{grows_snoc}
+use Rattle.policy_model.specs.Kept.{Kept}
+use Rattle.policy_model.specs.declared.policy.PolicyParts.{PolicyParts}
+use Rattle.policy_model.proofs.GrowsLemmas.{grows_snoc}
 use Rattle.session_text.specs.declared.session.Run.{Run}
 use Rattle.session_text.specs.declared.session.SessionParts.{SessionParts}
 use Rattle.session_text.specs.Sessions.{IsSession, MayPort, MayNode, MayClient, MayLine}

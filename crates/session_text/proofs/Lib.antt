@@ -6,3 +6,4 @@ pub mod CallLemmas
 pub mod PlaceLemmas
 pub mod LineLemmas
 pub mod ReadingLemmas
+pub mod IndexLemmas

@@ -10,8 +10,8 @@ use Rattle.std.proofs.lemmas.Slice.Eq.{bytes_eq-Decides}
 use Rattle.flask_sid.specs.Names.{is_long}
 use Rattle.flask_sid.specs.declared.context.ContextOf.{ContextOf}
 use Rattle.text_lines.specs.Lines.{is_filled, is_word_byte}
-use Rattle.policy_text.specs.Above.{same_context}
-use Rattle.policy_text.specs.declared.policy.ContextLine.{ContextLine}
+use Rattle.policy_model.specs.Declarations.{same_context}
+use Rattle.policy_model.specs.declared.policy.ContextLine.{ContextLine}
 use Rattle.file_calls.specs.Formed.{IsSlot, IsOffset, IsReadLength, IsData, IsSkip, IsPart, IsPath, IsEntryPath, is_path_byte}
 use Rattle.session_forms.specs.PathForms.{is_part_form, is_long_path}
 use Rattle.session_forms.specs.Ranges.{is_past_slot, is_past_offset, is_past_place, is_long_word}

@@ -6,7 +6,7 @@ use Rattle.flask_sid.specs.Names.{is_long}
 use Rattle.text_lines.specs.declared.fault.FaultKind.TheVariants.{Syntax, Order, Limit, Unknown}
 use Rattle.text_lines.specs.Lines.{line_words}
 use Rattle.text_lines.specs.ResultSteps.{found_or}
-use Rattle.policy_text.proofs.GrowsLemmas.{unless, after}
+use Rattle.policy_text.proofs.StepLemmas.{unless, after}
 use Rattle.session_forms.specs.Ranges.{is_past_call}
 use Rattle.session_forms.specs.RunForms.{run_form}
 use Rattle.session_forms.specs.declared.run_forms.RunForm.{RunForm}

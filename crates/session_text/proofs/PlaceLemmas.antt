@@ -9,7 +9,7 @@ use Rattle.flask_sid.specs.Contexts.{is_long_context}
 use Rattle.flask_sid.specs.declared.context.ContextOf.{ContextOf}
 use Rattle.text_lines.specs.declared.fault.FaultKind.TheVariants.{Unknown, Undeclared, Twice}
 use Rattle.text_lines.specs.ResultSteps.{found_or}
-use Rattle.policy_text.proofs.GrowsLemmas.{unless, after}
+use Rattle.policy_text.proofs.StepLemmas.{unless, after}
 use Rattle.file_calls.specs.Openings.{has_node, is_parent_there}
 use Rattle.session_forms.specs.PathForms.{is_long_path}
 use Rattle.session_forms.specs.Ranges.{is_past_place, is_long_data}

@@ -1,5 +1,5 @@
 -- What is left of a text, read from here, is the whole answer.
-use Rattle.std.proofs.Common.{◌≡◌, ℕ, List, [], ◌∷◌, Ok, Err, refl}
+use Rattle.std.proofs.Common.{◌≡◌, ◌+◌, true, false, Result, ℕ, List, [], ◌∷◌, Ok, Err, refl}
 use Rattle.text_lines.specs.Lines.{lines_of}
 use Rattle.text_lines.specs.ResultSteps.{LineFault}
 use Rattle.text_lines.specs.Refusals.{Fails, FailsText}
@@ -9,33 +9,73 @@ use Rattle.text_lines.specs.declared.fault.TextFault.{TextFault}
 use Rattle.text_lines.specs.declared.fault.TextFault.TheVariants as text_fault
 use Rattle.session_forms.specs.declared.setup_forms.SetupForm.{SetupForm}
 use Rattle.session_forms.specs.declared.setup_forms.SetupForm.TheVariants as form
-use Rattle.session_text.specs.Grammar.{Setup}
-use Rattle.session_text.specs.Reading.{setup_read, is_run, Leads, setup_form_read, read_line, read_lines, read_end, session_of}
-use Rattle.session_text.specs.declared.reader.SessionReader.{SessionReader}
+use Rattle.policy_text.specs.Reading.{Reading, read_on, IsRefusedAt}
+use Rattle.session_text.specs.declared.session.SessionParts.{SessionParts}
+use Rattle.session_text.specs.Progress.{SetupReading}
+use Rattle.session_text.specs.Readers as reader
+use Rattle.session_text.specs.Grammar.{Setup, run_line_read}
+use Rattle.session_text.specs.Reading.{is_session_line, session_line_read, numbered_line_read, setup_line_read, run_on, setup_read, is_run, Leads, setup_form_read, read_line, read_lines, read_end}
+use Rattle.session_text.specs.Readers.{SessionReader}
 
--- what the reader makes of the rest is what the text is
-pub record IsBelow (reader : SessionReader) (rest bytes : List ℕ) : Type 0 where
-  pub so_far : read_lines reader (lines_of rest) ≡ session_of bytes
-
--- a line without fault
-pub below_line : (reader next : SessionReader) (rest below line bytes : List ℕ) → IsBelow reader rest bytes → lines_of rest ≡ line ∷ lines_of below → read_line reader line ≡ Ok next → IsBelow next below bytes
+-- what the reader makes of the lines that are left, below one line more
+pub below_line : (reader next : SessionReader) (rest below line : List ℕ) (total : Result SessionParts LineFault) → read_lines reader (lines_of rest) ≡ total → lines_of rest ≡ line ∷ lines_of below → read_line reader line ≡ Ok next → read_lines next (lines_of below) ≡ total
 unfolding read_lines
-below_line reader next rest below line bytes is_below lines said = record { so_far = rw (lines, said) at is_below.so_far }
+below_line reader next rest below line total so_far lines said = rw (lines, said) at so_far
 
 -- a faulty line
-faulty : (reader : SessionReader) (rest below line bytes : List ℕ) (e : LineFault) → IsBelow reader rest bytes → lines_of rest ≡ line ∷ lines_of below → read_line reader line ≡ Err e → session_of bytes ≡ Err e
+faulty : (reader : SessionReader) (rest below line : List ℕ) (e : LineFault) (total : Result SessionParts LineFault) → read_lines reader (lines_of rest) ≡ total → lines_of rest ≡ line ∷ lines_of below → read_line reader line ≡ Err e → total ≡ Err e
 unfolding read_lines
-faulty reader rest below line bytes e is_below lines said = let total = rw (lines, said) at is_below.so_far in cc
+faulty reader rest below line e total so_far lines said = let whole = rw (lines, said) at so_far in cc
 
 -- the text is refused as its faulty line is
-pub fails_at : (reader : SessionReader) (rest below line bytes : List ℕ) (fault : TextFault) → IsBelow reader rest bytes → lines_of rest ≡ line ∷ lines_of below → FailsText fault (read_line reader line) → FailsText fault (session_of bytes)
-fails_at reader rest below line bytes text_fault.Memory is_below lines said = tt
-fails_at reader rest below line bytes (text_fault.Text n kind) is_below lines said = faulty reader rest below line bytes (record { line = n; kind = kind }) is_below lines said
+pub fails_at : (reader : SessionReader) (rest below line : List ℕ) (fault : TextFault) (total : Result SessionParts LineFault) → read_lines reader (lines_of rest) ≡ total → lines_of rest ≡ line ∷ lines_of below → FailsText fault (read_line reader line) → FailsText fault total
+fails_at reader rest below line text_fault.Memory total so_far lines said = tt
+fails_at reader rest below line (text_fault.Text n kind) total so_far lines said = faulty reader rest below line (record { line = n; kind = kind }) total so_far lines said
 
 -- no line is left
-pub at_end : (reader : SessionReader) (rest bytes : List ℕ) → IsBelow reader rest bytes → lines_of rest ≡ [] → session_of bytes ≡ read_end reader
+pub at_end : (reader : SessionReader) (rest : List ℕ) (total : Result SessionParts LineFault) → read_lines reader (lines_of rest) ≡ total → lines_of rest ≡ [] → total ≡ read_end reader
 unfolding read_lines
-at_end reader rest bytes is_below none = let total = rw none at is_below.so_far in cc
+at_end reader rest total so_far none = let whole = rw none at so_far in cc
+
+-- a line of the policy
+pub policy_line : (policy next : Reading) (line : List ℕ) → is_session_line line ≡ false → read_on policy line ≡ Ok next → read_line (reader.Policy policy) line ≡ Ok (reader.Policy next)
+unfolding read_line
+policy_line policy next line other said = rw (other, said) refl
+
+pub policy_fails : (policy : Reading) (line : List ℕ) (fault : TextFault) → is_session_line line ≡ false → FailsText fault (read_on policy line) → FailsText fault (read_line (reader.Policy policy) line)
+unfolding read_line
+policy_fails policy line text_fault.Memory other said = tt
+policy_fails policy line (text_fault.Text n kind) other said = rw (other, said) refl
+
+-- the session line
+pub session_begins : (policy : Reading) (begun : SetupReading) (line : List ℕ) (lines : List (List ℕ)) → is_session_line line ≡ true → session_line_read policy line ≡ Ok begun → read_lines (reader.Policy policy) (line ∷ lines) ≡ read_lines (reader.Setup begun) lines
+unfolding read_lines read_line
+session_begins policy begun line lines is said = rw (is, said) refl
+
+pub session_fails : (policy : Reading) (line : List ℕ) (lines : List (List ℕ)) (fault : TextFault) → is_session_line line ≡ true → FailsText fault (session_line_read policy line) → FailsText fault (read_lines (reader.Policy policy) (line ∷ lines))
+unfolding read_lines read_line
+session_fails policy line lines text_fault.Memory is said = tt
+session_fails policy line lines (text_fault.Text n kind) is said = rw (is, said) refl
+
+-- a session line
+pub setup_line : (n : ℕ) (setup : Setup) (line : List ℕ) (next : SessionReader) → numbered_line_read n line setup ≡ Ok next → read_line (reader.Setup (record { number = n; above = setup })) line ≡ Ok next
+unfolding read_line setup_line_read
+setup_line n setup line next said = rw said refl
+
+pub setup_refused : (n : ℕ) (setup : Setup) (line : List ℕ) (refused : Refusal) (fault : TextFault) → Fails refused (numbered_line_read n line setup) → IsRefusedAt fault n refused → FailsText fault (read_line (reader.Setup (record { number = n; above = setup })) line)
+unfolding read_line setup_line_read
+setup_refused n setup line refusal.Memory fault said is = rw is tt
+setup_refused n setup line (refusal.Fault kind) fault said is = rw (is, said) refl
+
+-- a line that runs
+pub run_line : (n : ℕ) (running next : SessionParts) (line : List ℕ) → run_line_read n line running ≡ Ok next → read_line (reader.Run (record { number = n; above = running })) line ≡ Ok (reader.Run (record { number = n + 1; above = next }))
+unfolding read_line run_on
+run_line n running next line said = rw said refl
+
+pub run_refused : (n : ℕ) (running : SessionParts) (line : List ℕ) (refused : Refusal) (fault : TextFault) → Fails refused (run_line_read n line running) → IsRefusedAt fault n refused → FailsText fault (read_line (reader.Run (record { number = n; above = running })) line)
+unfolding read_line run_on
+run_refused n running line refusal.Memory fault said is = rw is tt
+run_refused n running line (refusal.Fault kind) fault said is = rw (is, said) refl
 
 -- a session line without fault, and what it leads to
 pub setup_leads : (n : ℕ) (said : SetupForm) (setup next : Setup) → setup_read said setup ≡ Ok next → Leads (Ok (is_run said)) n next (setup_form_read n said setup)

@@ -3,8 +3,8 @@ use Rattle.std.proofs.Common.{◌≡◌, ◌<◌, ◌≤◌, ◌+◌, ℕ, List,
 use Rattle.std.proofs.lemmas.List.Elements.{All-cons, All-nil}
 use Rattle.file_calls.specs.Openings.{AreEntries, AreNodes}
 use Rattle.file_calls.specs.declared.opening.Node.{Node}
-use Rattle.policy_text.specs.Kept.{Grows}
-use Rattle.policy_text.specs.declared.policy.ContextLine.{ContextLine}
+use Rattle.policy_model.specs.Kept.{Grows}
+use Rattle.policy_model.specs.declared.policy.ContextLine.{ContextLine}
 use Rattle.session_text.specs.declared.session.SessionParts.{SessionParts}
 use Rattle.session_text.specs.Above.{node_limit, port_limit, client_limit}
 use Rattle.session_text.specs.Sessions.{IsSession, IsSidOf, IsRun, MayPort, MayNode, MayClient, MayLine}

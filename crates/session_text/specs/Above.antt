@@ -3,8 +3,8 @@ use Rattle.std.specs.Prelude.{ℕ, ◌+◌, Bool, ◌==◌, nat_lt, List, Option
 use Rattle.std.specs.List.{list_any, position}
 use Rattle.std.specs.Str.{bytes_eq}
 use Rattle.flask_sid.specs.declared.context.ContextOf.{ContextOf}
-use Rattle.policy_text.specs.declared.policy.ContextLine.{ContextLine}
-use Rattle.policy_text.specs.Above.{same_context}
+use Rattle.policy_model.specs.declared.policy.ContextLine.{ContextLine}
+use Rattle.policy_model.specs.Declarations.{same_context}
 use Rattle.port_calls.specs.declared.opening.LabelledPort.{LabelledPort}
 use Rattle.session_text.specs.declared.session.ClientLine.{ClientLine}
 

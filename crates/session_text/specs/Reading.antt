@@ -4,13 +4,11 @@ use Rattle.std.specs.Str.{bytes_eq}
 use Rattle.text_lines.specs.declared.fault.FaultKind.{FaultKind}
 use Rattle.text_lines.specs.declared.fault.FaultKind.TheVariants.{Syntax, Ended}
 use Rattle.text_lines.specs.declared.fault.Refusal.{Refusal}
-use Rattle.text_lines.specs.declared.fault.Refusal.TheVariants as refusal
-use Rattle.text_lines.specs.Refusals.{Fails}
+use Rattle.text_lines.specs.Refusals.{Fails, FailsText}
 use Rattle.text_lines.specs.declared.fault.TextFault.{TextFault}
-use Rattle.text_lines.specs.declared.fault.TextFault.TheVariants as text_fault
 use Rattle.text_lines.specs.Lines.{lines_of, words_of, line_words}
 use Rattle.text_lines.specs.ResultSteps.{◌>>=◌, LineFault, found_or, at_line}
-use Rattle.policy_text.specs.declared.policy.PolicyParts.{PolicyParts}
+use Rattle.policy_model.specs.declared.policy.PolicyParts.{PolicyParts}
 use Rattle.policy_text.specs.Grammar.{end_read}
 use Rattle.policy_text.specs.Reading.{Reading, begun as policy_begun, read_on}
 use Rattle.session_forms.specs.SetupForms.{setup_form}
@@ -19,8 +17,8 @@ use Rattle.session_text.specs.Grammar.{Setup, set_up, file_read, directory_read,
 use Rattle.session_forms.specs.declared.setup_forms.SetupForm.{SetupForm}
 use Rattle.session_forms.specs.declared.setup_forms.SetupForm.TheVariants as form
 use Rattle.session_text.specs.declared.session.SessionParts.{SessionParts}
-use Rattle.session_text.specs.declared.reader.SessionReader.{SessionReader}
-use Rattle.session_text.specs.declared.reader.SessionReader.TheVariants as reader
+use Rattle.session_text.specs.Readers.{SessionReader}
+use Rattle.session_text.specs.Readers as reader
 
 -- the line above which the policy stands: its first word is `session`
 unfoldable pub is_session_line : List ℕ → Bool
@@ -99,10 +97,10 @@ Leads (Ok true) n now said = said ≡ Ok (reader.Run (record { number = n + 1; a
 Leads (Ok false) n now said = said ≡ Ok (reader.Setup (record { number = n + 1; above = now }))
 Leads (Err e) n now said = Fails e said
 
--- the fault of line n, which was refused
-abbrev pub IsRefusedAt : TextFault → ℕ → Refusal → Type 0
-IsRefusedAt fault n (refusal.Fault kind) = fault ≡ text_fault.Text n kind
-IsRefusedAt fault n refusal.Memory = fault ≡ text_fault.Memory
+-- the answer is what is said of the session line: the number of the next line and what is there, or the fault
+abbrev pub IsBegun : Result (ℕ × Setup) TextFault → Result SetupReading LineFault → Type 0
+IsBegun (Ok begun) said = said ≡ Ok (record { number = begun.0; above = begun.1 })
+IsBegun (Err e) said = FailsText e said
 
 -- below one line more
 unfoldable pub read_line : SessionReader → List ℕ → Result SessionReader LineFault

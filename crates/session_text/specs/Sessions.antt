@@ -16,8 +16,8 @@ use Rattle.port_calls.specs.Formed as port_form
 use Rattle.port_calls.specs.declared.call.PortCall.{PortCall}
 use Rattle.port_calls.specs.declared.call.PortCall.TheVariants as port_call
 use Rattle.port_calls.specs.declared.opening.LabelledPort.{LabelledPort}
-use Rattle.policy_text.specs.Kept.{Grows}
-use Rattle.policy_text.specs.declared.policy.ContextLine.{ContextLine}
+use Rattle.policy_model.specs.Kept.{Grows}
+use Rattle.policy_model.specs.declared.policy.ContextLine.{ContextLine}
 use Rattle.session_forms.specs.declared.run_forms.Manager.{Manager}
 use Rattle.session_forms.specs.declared.run_forms.Manager.TheVariants as manager
 use Rattle.session_text.specs.Above.{node_limit, port_limit, client_limit, has_port, has_client}

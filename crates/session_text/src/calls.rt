@@ -1,6 +1,6 @@
 //! Calls, put together from what their words say. What they name is declared.
 
-ghost use Rattle.std.specs.Prelude.{◌≡◌, ◌≤◌, false, [], length, IfOk};
+ghost use Rattle.std.specs.Prelude.{◌≡◌, false, IfOk};
 ghost use Rattle.text_lines.specs.Refusals.{Gives};
 ghost use Rattle.file_calls.specs.declared.call.FileCall.TheVariants as call;
 ghost use Rattle.session_forms.specs.Ranges;
@@ -8,12 +8,11 @@ ghost use Rattle.session_forms.specs.declared.call_forms.FileForm.TheVariants as
 ghost use Rattle.session_forms.specs.declared.call_forms.ProcessForm.TheVariants as process;
 ghost use Rattle.session_text.specs.Grammar;
 
-use crate::look_up::{client_number, context_sid};
-use crate::session::{ClientLine, Run, Session};
+use crate::running::Running;
+use crate::session::Run;
 use access_vectors::Vector;
 use file_calls::FileCall;
 use flask_sid::{ContextOf, Memory, Piece, Word};
-use policy_text::ContextLine;
 use port_calls::PortCall;
 use process_calls::ProcessCall;
 use session_forms::{CallForm, FileForm, Parts, PortForm, ProcessForm};
@@ -22,22 +21,22 @@ use text_lines::{FaultKind, Refusal};
 
 /// What a client's call asks.
 #[tactic(auto, unfolding(crate::specs::Grammar::asked_call, session_forms::specs::Ranges::is_past_call))]
-pub fn asked_call(
+pub(crate) fn asked_call<'a>(
     alloc: Global,
-    session: &Session,
+    running: &Running<'a>,
     client: u8,
-    form: &CallForm<'_>,
+    form: &CallForm<'a>,
 ) -> Result<Run, Refusal>
     requires { Ranges.is_past_call form.now ≡ false }
-    ensures { Gives result (Grammar.asked_call session.now client form.now) }
+    ensures { Gives result (Grammar.asked_call running.now client form.now) }
 {
     match form {
         CallForm::OfFile(form) => {
-            let call = file_call(alloc, session.contexts(), session.clients(), form)?;
+            let call = file_call(alloc, running, form)?;
             Ok(Run::File { client, call })
         }
         CallForm::OfProcess(form) => {
-            let call = process_call(session.contexts(), form)?;
+            let call = process_call(running, form)?;
             Ok(Run::Process { client, call })
         }
         CallForm::OfPort(form) => {
@@ -49,15 +48,13 @@ pub fn asked_call(
 
 /// The call of the file manager.
 #[tactic(auto, unfolding(crate::specs::Grammar::file_call))]
-fn file_call(
+fn file_call<'a>(
     alloc: Global,
-    contexts: &[ContextLine],
-    clients: &[ClientLine],
-    form: &FileForm<'_>,
+    running: &Running<'a>,
+    form: &FileForm<'a>,
 ) -> Result<FileCall, Refusal>
-    requires within { Ranges.is_past_file form.now ≡ false }
-    requires few { length clients.now ≤ 62 }
-    ensures { Gives result (Grammar.file_call contexts.now clients.now form.now) }
+    requires { Ranges.is_past_file form.now ≡ false }
+    ensures { Gives result (Grammar.file_call running.now.policy.contexts running.now.clients form.now) }
 {
     match form {
         FileForm::Mkdir(path) => Ok(FileCall::Mkdir {
@@ -78,8 +75,8 @@ fn file_call(
         FileForm::Stat(path) => Ok(FileCall::StatFile {
             path: path.kept(alloc)?,
         }),
-        FileForm::Relabel(path, context) => relabel_call(alloc, contexts, path, context),
-        FileForm::Give(slot, client, target) => give_call(clients, *slot, client, *target),
+        FileForm::Relabel(path, context) => relabel_call(alloc, running, path, context),
+        FileForm::Give(slot, client, target) => give_call(running, *slot, client, *target),
     }
 }
 
@@ -161,15 +158,15 @@ fn list_call(alloc: Global, path: &Parts<'_>, skip: u64) -> Result<FileCall, Mem
 
 /// `relabel`, whose context has to be declared.
 #[tactic(auto, unfolding(crate::specs::Grammar::file_call))]
-fn relabel_call(
+fn relabel_call<'a>(
     alloc: Global,
-    contexts: &[ContextLine],
-    path: &Parts<'_>,
-    context: &ContextOf<Word<'_>>,
+    running: &Running<'a>,
+    path: &Parts<'a>,
+    context: &ContextOf<Word<'a>>,
 ) -> Result<FileCall, Refusal>
-    ensures { Gives result (Grammar.file_call contexts.now [] (file.Relabel path.now context.now)) }
+    ensures { Gives result (Grammar.file_call running.now.policy.contexts running.now.clients (file.Relabel path.now context.now)) }
 {
-    let Some(sid) = context_sid(contexts, context) else {
+    let Some(sid) = running.sid(context) else {
         return Err(Refusal::Fault(FaultKind::Undeclared));
     };
     let path = path.kept(alloc)?;
@@ -178,17 +175,16 @@ fn relabel_call(
 
 /// `give`, within its limits, whose receiver has to be declared.
 #[tactic(auto, unfolding(crate::specs::Grammar::file_call, session_forms::specs::Ranges::is_past_file))]
-fn give_call(
-    clients: &[ClientLine],
+fn give_call<'a>(
+    running: &Running<'a>,
     slot: u64,
-    client: &Word<'_>,
+    client: &Word<'a>,
     target: u64,
 ) -> Result<FileCall, Refusal>
-    requires within { Ranges.is_past_file (file.Give slot client.now target) ≡ false }
-    requires few { length clients.now ≤ 62 }
-    ensures { Gives result (Grammar.file_call [] clients.now (file.Give slot client.now target)) }
+    requires { Ranges.is_past_file (file.Give slot client.now target) ≡ false }
+    ensures { Gives result (Grammar.file_call running.now.policy.contexts running.now.clients (file.Give slot client.now target)) }
 {
-    let Some(client) = client_number(clients, client) else {
+    let Some(client) = running.number(client) else {
         return Err(Refusal::Fault(FaultKind::Unknown));
     };
     Ok(FileCall::Give {
@@ -200,12 +196,12 @@ fn give_call(
 
 /// The call of the process manager, whose context has to be declared.
 #[tactic(auto, unfolding(crate::specs::Grammar::process_call, session_forms::specs::Ranges::is_past_process))]
-fn process_call(contexts: &[ContextLine], form: &ProcessForm<'_>) -> Result<ProcessCall, Refusal>
+fn process_call<'a>(running: &Running<'a>, form: &ProcessForm<'a>) -> Result<ProcessCall, Refusal>
     requires { Ranges.is_past_process form.now ≡ false }
-    ensures { Gives result (Grammar.process_call contexts.now form.now) }
+    ensures { Gives result (Grammar.process_call running.now.policy.contexts form.now) }
 {
     match form {
-        ProcessForm::Exec(pid, context) => exec_call(contexts, *pid, context),
+        ProcessForm::Exec(pid, context) => exec_call(running, *pid, context),
         ProcessForm::Fork(pid) => Ok(ProcessCall::Fork { pid: *pid as u32 }),
         ProcessForm::Signal(pid, number) => Ok(ProcessCall::Signal {
             pid: *pid as u32,
@@ -232,15 +228,15 @@ fn process_call(contexts: &[ContextLine], form: &ProcessForm<'_>) -> Result<Proc
 
 /// `exec`, whose context has to be declared.
 #[tactic(auto, unfolding(crate::specs::Grammar::process_call, session_forms::specs::Ranges::is_past_process))]
-fn exec_call(
-    contexts: &[ContextLine],
+fn exec_call<'a>(
+    running: &Running<'a>,
     pid: u64,
-    context: &ContextOf<Word<'_>>,
+    context: &ContextOf<Word<'a>>,
 ) -> Result<ProcessCall, Refusal>
     requires { Ranges.is_past_process (process.Exec pid context.now) ≡ false }
-    ensures { Gives result (Grammar.process_call contexts.now (process.Exec pid context.now)) }
+    ensures { Gives result (Grammar.process_call running.now.policy.contexts (process.Exec pid context.now)) }
 {
-    let Some(sid) = context_sid(contexts, context) else {
+    let Some(sid) = running.sid(context) else {
         return Err(Refusal::Fault(FaultKind::Undeclared));
     };
     Ok(ProcessCall::Exec {

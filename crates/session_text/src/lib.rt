@@ -11,8 +11,5 @@ mod session;
 mod setup;
 mod setup_lines;
 
-pub use passes::{ClientPasses, PassChange, PassTable};
-pub use reader::{RunReader, SessionReader, SetupReader, read};
-pub use running::Running;
+pub use reader::read;
 pub use session::{ClientLine, Run, RunLine, Session, SessionParts};
-pub use setup::Setup;

@@ -11,10 +11,10 @@ use std::marker::Model;
 
 /// Of which managers a client holds a pass.
 #[derive(Clone, Copy, Debug)]
-pub struct ClientPasses {
-    pub file: bool,
-    pub process: bool,
-    pub port: bool,
+pub(crate) struct ClientPasses {
+    pub(crate) file: bool,
+    pub(crate) process: bool,
+    pub(crate) port: bool,
 }
 
 impl ClientPasses {
@@ -26,7 +26,7 @@ impl ClientPasses {
     };
 
     /// Whether the client holds a pass of a manager.
-    pub fn has(self, manager: Manager) -> bool
+    pub(crate) fn has(self, manager: Manager) -> bool
         ensures { result ≡ Passes.has_pass manager self }
     {
         match manager {
@@ -53,16 +53,16 @@ impl ClientPasses {
 
 /// A pass that a line takes, or gives back.
 #[derive(Clone, Copy, Debug)]
-pub struct PassChange {
-    pub client: u8,
-    pub manager: Manager,
+pub(crate) struct PassChange {
+    pub(crate) client: u8,
+    pub(crate) manager: Manager,
     /// Whether the client holds the pass below the line.
-    pub now: bool,
+    pub(crate) now: bool,
 }
 
 impl PassChange {
     /// The pass that a line takes or gives back, if any.
-    pub fn of(run: &Run) -> Option<PassChange>
+    pub(crate) fn of(run: &Run) -> Option<PassChange>
         ensures { result ≡ Passes.change_of run.now }
     {
         match run {
@@ -83,7 +83,7 @@ impl PassChange {
 
 /// Of which managers each client holds a pass, by the client's number. Contracts see the list.
 #[derive(Debug, Drop)]
-pub struct PassTable {
+pub(crate) struct PassTable {
     rows: Vec<ClientPasses>,
 }
 
@@ -98,7 +98,7 @@ impl Model for PassTable {
 
 impl PassTable {
     /// A table in which so many clients hold no pass.
-    pub fn none_held(alloc: Global, clients: usize) -> Result<PassTable, Memory>
+    pub(crate) fn none_held(alloc: Global, clients: usize) -> Result<PassTable, Memory>
         ensures { IfOk result (λ held. held ≡ replicate clients Passes.no_pass) }
     {
         let mut rows = Vec::new(alloc);
@@ -107,7 +107,7 @@ impl PassTable {
     }
 
     /// The passes that a client holds.
-    pub fn passes_of(&self, client: u8) -> ClientPasses
+    pub(crate) fn passes_of(&self, client: u8) -> ClientPasses
         ensures { result ≡ Passes.passes_of self.now client }
     {
         self.rows
@@ -118,7 +118,7 @@ impl PassTable {
     }
 
     /// Notes who holds a pass below a line that makes this change.
-    pub fn note(&mut self, change: Option<PassChange>)
+    pub(crate) fn note(&mut self, change: Option<PassChange>)
         requires { Passes.IsWithin (length self.old) change }
         ensures { self.new ≡ Passes.noted self.old change }
     {

@@ -14,11 +14,11 @@ use text_lines::{FaultKind, Refusal};
 
 /// A line of this form, with its number.
 #[tactic(auto, unfolding(crate::specs::Grammar::run_read, session_forms::specs::ArgumentForms::IsRunForm))]
-pub fn run_read(
+pub(crate) fn run_read<'a>(
     alloc: Global,
     line: u32,
-    form: RunForm<'_>,
-    running: &mut Running,
+    form: RunForm<'a>,
+    running: &mut Running<'a>,
 ) -> Result<(), Refusal>
     requires form { IsRunForm form }
     requires above { AreAbove line running.old.lines }
@@ -36,12 +36,12 @@ pub fn run_read(
 
 /// A client's call.
 #[tactic(auto, unfolding(crate::specs::Grammar::client_call_read))]
-fn client_call_read(
+fn client_call_read<'a>(
     alloc: Global,
     line: u32,
-    name: Word<'_>,
-    form: CallForm<'_>,
-    running: &mut Running,
+    name: Word<'a>,
+    form: CallForm<'a>,
+    running: &mut Running<'a>,
 ) -> Result<(), Refusal>
     requires form { IsCallForm form }
     requires above { AreAbove line running.old.lines }
@@ -53,17 +53,17 @@ fn client_call_read(
     let Some(client) = running.number(&name) else {
         return Err(Refusal::Fault(FaultKind::Unknown));
     };
-    let run = asked_call(alloc, running.session(), client, &form)?;
+    let run = asked_call(alloc, running, client, &form)?;
     Ok(running.add_line(line, run)?)
 }
 
 /// A `begin` line.
 #[tactic(auto, unfolding(crate::specs::Grammar::begin_read))]
-fn begin_read(
+fn begin_read<'a>(
     line: u32,
-    name: Word<'_>,
+    name: Word<'a>,
     manager: Manager,
-    running: &mut Running,
+    running: &mut Running<'a>,
 ) -> Result<(), Refusal>
     requires { AreAbove line running.old.lines }
     ensures { Becomes result running.new (Grammar.begin_read line name.entry manager running.old) }
@@ -82,11 +82,11 @@ fn begin_read(
 
 /// An `end` line.
 #[tactic(auto, unfolding(crate::specs::Grammar::end_read))]
-fn end_read(
+fn end_read<'a>(
     line: u32,
-    name: Word<'_>,
+    name: Word<'a>,
     manager: Manager,
-    running: &mut Running,
+    running: &mut Running<'a>,
 ) -> Result<(), Refusal>
     requires { AreAbove line running.old.lines }
     ensures { Becomes result running.new (Grammar.end_read line name.entry manager running.old) }
@@ -102,7 +102,7 @@ fn end_read(
 
 /// A `notify` line.
 #[tactic(auto, unfolding(crate::specs::Grammar::notify_read))]
-fn notify_read(line: u32, version: u64, running: &mut Running) -> Result<(), Refusal>
+fn notify_read(line: u32, version: u64, running: &mut Running<'_>) -> Result<(), Refusal>
     requires { AreAbove line running.old.lines }
     ensures { Becomes result running.new (Grammar.notify_read line version running.old) }
 {
@@ -115,7 +115,7 @@ fn notify_read(line: u32, version: u64, running: &mut Running) -> Result<(), Ref
 
 /// An `update` line.
 #[tactic(auto, unfolding(crate::specs::Grammar::update_read))]
-fn update_read(line: u32, most: u64, running: &mut Running) -> Result<(), Refusal>
+fn update_read(line: u32, most: u64, running: &mut Running<'_>) -> Result<(), Refusal>
     requires { AreAbove line running.old.lines }
     ensures { Becomes result running.new (Grammar.update_read line most running.old) }
 {

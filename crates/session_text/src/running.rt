@@ -1,73 +1,90 @@
+//! The lines that run, as far as they are read.
+
 ghost use Rattle.std.specs.Prelude.{◌≡◌, ◌<◌, [], length, IfOk, IfSome, OnOk, OnErr};
 ghost use Rattle.session_text.specs.Above;
 ghost use Rattle.session_text.specs.Grammar;
-ghost use Rattle.session_text.specs.Sessions.{MayLine};
+ghost use Rattle.session_text.specs.Sessions.{IsSidOf, MayLine};
 
-use crate::look_up::client_number;
+use crate::look_up::{client_number, context_sid};
 use crate::passes::{PassChange, PassTable};
 use crate::session::{Run, Session};
 use crate::setup::Setup;
-use flask_sid::{Memory, Word};
+use flask_sid::{ContextOf, Memory, Sid, Word};
+use policy_text::ContextIndex;
 use session_forms::Manager;
 use std::alloc::Global;
 use std::marker::Model;
+use text_lines::WordIndex;
 
-/// A session whose lines run. It knows which passes each client holds by the lines so far. Contracts see the session.
-#[derive(Debug, Drop)]
-pub struct Running {
+/// A session whose lines run. It knows which passes each client holds by the lines so far, and its indexes have the contexts
+/// and the names of clients. Contracts see the session.
+#[derive(Drop)]
+pub(crate) struct Running<'a> {
     session: Session,
     held: PassTable,
+    contexts: ContextIndex<'a>,
+    clients: WordIndex<'a>,
 }
 
-impl Model for Running {
-    ghost use Rattle.std.specs.Prelude.{length};
+impl<'a> Model for Running<'a> {
     ghost use Rattle.session_text.specs.declared.session.SessionParts.{SessionParts};
-    ghost use Rattle.session_text.specs.Passes.{AreHeld};
+    ghost use Rattle.session_text.specs.Indexed.{IsRunningBy};
 
     ghost Value = { SessionParts };
 
     ghost view = { λ running. running.session };
 
-    ghost invariant = { λ running. AreHeld running.held (length running.session.clients) running.session.lines };
+    ghost invariant = { λ running. IsRunningBy running.session running.held running.contexts running.clients };
 }
 
-impl Running {
+impl<'a> Running<'a> {
     /// A session whose lines begin to run: no client holds a pass.
-    pub fn begun(alloc: Global, setup: Setup) -> Result<Running, Memory>
-        ensures value { IfOk result (λ running. running ≡ setup.session) }
+    pub(crate) fn begun(alloc: Global, setup: Setup<'a>) -> Result<Running<'a>, Memory>
+        ensures value { IfOk result (λ running. running ≡ setup.entry.session) }
         ensures idle { IfOk result (λ running. running.lines ≡ []) }
     {
-        let session = setup.finish();
+        let (session, contexts, clients) = setup.finish();
         let held = PassTable::none_held(alloc, session.clients().len())?;
-        Ok(Running { session, held })
-    }
-
-    /// The session so far.
-    pub fn session(&self) -> &Session
-        ensures { result.now ≡ self.now }
-    {
-        &self.session
+        Ok(Running {
+            session,
+            held,
+            contexts,
+            clients,
+        })
     }
 
     /// The session, at its end.
-    pub fn finish(self) -> Session
-        ensures { result ≡ self }
+    pub(crate) fn finish(self) -> Session
+        ensures { result ≡ self.entry }
     {
-        let Running { session, held: _ } = self;
+        let Running {
+            session,
+            held: _,
+            contexts: _,
+            clients: _,
+        } = self;
         session
     }
 
+    /// The identifier of a declared context.
+    pub(crate) fn sid(&self, context: &ContextOf<Word<'a>>) -> Option<Sid>
+        ensures value { result ≡ Above.context_sid self.now.policy.contexts context.now }
+        ensures known { IfSome result (IsSidOf self.now.policy.contexts) }
+    {
+        context_sid(&self.contexts, context)
+    }
+
     /// The number of the client of that name.
-    pub fn number(&self, name: &Word<'_>) -> Option<u8>
+    pub(crate) fn number(&self, name: &Word<'a>) -> Option<u8>
         ensures value { result ≡ Above.client_number self.now.clients name.now }
         ensures within { IfSome result (λ number. number < length self.now.clients) }
     {
-        client_number(self.session.clients(), name)
+        client_number(&self.clients, name)
     }
 
     /// Whether a client of that name holds a pass of that manager.
     #[tactic(auto, unfolding(crate::specs::Grammar::holds))]
-    pub fn holds(&self, manager: Manager, name: &Word<'_>) -> bool
+    pub(crate) fn holds(&self, manager: Manager, name: &Word<'a>) -> bool
         ensures { result ≡ Grammar.holds manager self.now name.now }
     {
         match self.number(name) {
@@ -77,7 +94,7 @@ impl Running {
     }
 
     /// Adds a line. After `Memory` the session is as before.
-    pub fn add_line(&mut self, line: u32, run: Run) -> Result<(), Memory>
+    pub(crate) fn add_line(&mut self, line: u32, run: Run) -> Result<(), Memory>
         requires { MayLine self.old.policy.contexts self.old.clients self.old.lines (record { line = line; run = run }) }
         ensures ok { OnOk result (self.new ≡ Grammar.with_line line run self.old) }
         ensures err { OnErr result (self.new ≡ self.old) }

@@ -1,10 +1,12 @@
+//! Sessions, as their texts give them.
+
 ghost use Rattle.std.specs.Prelude.{◌≡◌, ◌≤◌, length, OnOk, OnErr};
 ghost use Rattle.session_text.specs.Grammar;
 ghost use Rattle.session_text.specs.Sessions.{IsSession, MayLine};
 
 use file_calls::{FileCall, Node};
 use flask_sid::{Memory, Name, Rows, Sid};
-use policy_text::{ContextLine, PolicyText};
+use policy_model::PolicyText;
 use port_calls::{LabelledPort, PortCall};
 use process_calls::ProcessCall;
 use session_forms::Manager;
@@ -100,13 +102,6 @@ impl Session {
         ensures kept { IsSession self.now }
     {
         &self.parts
-    }
-
-    /// The declared contexts.
-    pub(crate) fn contexts(&self) -> &[ContextLine]
-        ensures { result.now ≡ self.now.policy.contexts }
-    {
-        self.parts.policy.parts().contexts.as_slice()
     }
 
     /// The clients, of whom there are at most 62.

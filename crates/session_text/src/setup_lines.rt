@@ -7,17 +7,14 @@ ghost use Rattle.port_calls.specs.Formed.{IsPort};
 ghost use Rattle.text_lines.specs.Refusals.{Gives};
 ghost use Rattle.session_forms.specs.ArgumentForms.{IsPathForm, IsSetupForm, IsWord};
 ghost use Rattle.session_forms.specs.declared.setup_forms.SetupForm.TheVariants as form;
-ghost use Rattle.session_text.specs.Above;
 ghost use Rattle.session_text.specs.Grammar;
 ghost use Rattle.session_text.specs.Progress.{Becomes};
 ghost use Rattle.session_text.specs.Reading;
 ghost use Rattle.session_text.specs.Sessions.{IsSidOf};
 
-use crate::look_up::{context_sid, has_client, has_node, has_port, is_parent_there};
-use crate::session::{ClientLine, SessionParts};
+use crate::look_up::has_port;
 use crate::setup::Setup;
-use file_calls::{FilePath, Node};
-use flask_sid::{ContextOf, Memory, Name, Piece, Sid, Word};
+use flask_sid::{ContextOf, Memory, Piece, Sid, Word};
 use session_forms::{Initial, Parts, SetupForm, is_long_data, is_past_place};
 use std::alloc::Global;
 use text_lines::{FaultKind, Refusal};
@@ -30,7 +27,11 @@ const CLIENT_LIMIT: usize = 62;
 
 /// A session line of this form. The line `run` asks nothing.
 #[tactic(auto, unfolding(crate::specs::Reading::setup_read, session_forms::specs::ArgumentForms::IsSetupForm))]
-pub fn setup_read(alloc: Global, form: SetupForm<'_>, setup: &mut Setup) -> Result<(), Refusal>
+pub fn setup_read<'a>(
+    alloc: Global,
+    form: SetupForm<'a>,
+    setup: &mut Setup<'a>,
+) -> Result<(), Refusal>
     requires { IsSetupForm form }
     ensures { Becomes result setup.new (Reading.setup_read form.entry setup.old) }
 {
@@ -47,12 +48,12 @@ pub fn setup_read(alloc: Global, form: SetupForm<'_>, setup: &mut Setup) -> Resu
 
 /// A `file` line.
 #[tactic(auto, unfolding(crate::specs::Reading::setup_read, crate::specs::Grammar::file_read))]
-fn file_read(
+fn file_read<'a>(
     alloc: Global,
-    path: Parts<'_>,
-    context: ContextOf<Word<'_>>,
-    bytes: Option<Word<'_>>,
-    setup: &mut Setup,
+    path: Parts<'a>,
+    context: ContextOf<Word<'a>>,
+    bytes: Option<Word<'a>>,
+    setup: &mut Setup<'a>,
 ) -> Result<(), Refusal>
     requires path { IsPathForm path }
     requires bytes { IfSome bytes IsWord }
@@ -61,19 +62,18 @@ fn file_read(
     if is_past_node(&path, &context, setup.parts().nodes.len()) || is_long_data(&bytes) {
         return Err(Refusal::Fault(FaultKind::Limit));
     }
-    let path = path.kept(alloc)?;
-    let sid = node_sid(&path, &context, setup.parts())?;
+    let sid = node_sid(&path, &context, setup)?;
     let bytes = data_bytes(alloc, &bytes)?;
-    Ok(setup.add_node(path, sid, Some(bytes))?)
+    Ok(setup.add_node(alloc, &path, sid, Some(bytes))?)
 }
 
 /// A `dir` line.
 #[tactic(auto, unfolding(crate::specs::Reading::setup_read, crate::specs::Grammar::directory_read))]
-fn directory_read(
+fn directory_read<'a>(
     alloc: Global,
-    path: Parts<'_>,
-    context: ContextOf<Word<'_>>,
-    setup: &mut Setup,
+    path: Parts<'a>,
+    context: ContextOf<Word<'a>>,
+    setup: &mut Setup<'a>,
 ) -> Result<(), Refusal>
     requires { IsPathForm path }
     ensures { Becomes result setup.new (Reading.setup_read (form.Directory path.entry context.entry) setup.old) }
@@ -81,38 +81,29 @@ fn directory_read(
     if is_past_node(&path, &context, setup.parts().nodes.len()) {
         return Err(Refusal::Fault(FaultKind::Limit));
     }
-    let path = path.kept(alloc)?;
-    let sid = node_sid(&path, &context, setup.parts())?;
-    Ok(setup.add_node(path, sid, None)?)
+    let sid = node_sid(&path, &context, setup)?;
+    Ok(setup.add_node(alloc, &path, sid, None)?)
 }
 
 /// The identifier of a node that is to stand at a path.
 #[tactic(auto, unfolding(crate::specs::Grammar::node_sid))]
-fn node_sid(
-    path: &FilePath,
-    context: &ContextOf<Word<'_>>,
-    session: &SessionParts,
+fn node_sid<'a>(
+    path: &Parts<'a>,
+    context: &ContextOf<Word<'a>>,
+    setup: &Setup<'a>,
 ) -> Result<Sid, Refusal>
-    ensures { Gives result (Grammar.node_sid path.now context.now session.now) }
+    ensures { Gives result (Grammar.node_sid path.now context.now setup.now.session) }
 {
-    if !is_parent_there(session.nodes.as_slice(), path) {
+    if !setup.is_parent_there(path) {
         return Err(Refusal::Fault(FaultKind::Unknown));
     }
-    let Some(sid) = sid_of(session, context) else {
+    let Some(sid) = setup.sid(context) else {
         return Err(Refusal::Fault(FaultKind::Undeclared));
     };
-    if is_taken(session.nodes.as_slice(), path) {
+    if setup.is_taken(path) {
         return Err(Refusal::Fault(FaultKind::Twice));
     }
     Ok(sid)
-}
-
-/// The identifier of a declared context.
-fn sid_of(session: &SessionParts, context: &ContextOf<Word<'_>>) -> Option<Sid>
-    ensures value { result ≡ Above.context_sid session.now.policy.contexts context.now }
-    ensures known { IfSome result (IsSidOf session.now.policy.contexts) }
-{
-    context_sid(session.policy.parts().contexts.as_slice(), context)
 }
 
 #[tactic(auto, unfolding(crate::specs::Grammar::is_past_node))]
@@ -120,13 +111,6 @@ fn is_past_node(path: &Parts<'_>, context: &ContextOf<Word<'_>>, nodes: usize) -
     ensures { result ≡ Grammar.is_past_node path.now context.now nodes }
 {
     path.is_long() || context.is_long() || nodes >= NODE_LIMIT
-}
-
-#[tactic(auto, unfolding(crate::specs::Grammar::is_taken))]
-fn is_taken(nodes: &[Node], path: &FilePath) -> bool
-    ensures { result ≡ Grammar.is_taken nodes.now path.now }
-{
-    path.is_empty() || has_node(nodes, path)
 }
 
 fn data_bytes(alloc: Global, bytes: &Option<Word<'_>>) -> Result<Piece, Memory>
@@ -140,11 +124,11 @@ fn data_bytes(alloc: Global, bytes: &Option<Word<'_>>) -> Result<Piece, Memory>
 
 /// A `client` line.
 #[tactic(auto, unfolding(crate::specs::Reading::setup_read, crate::specs::Grammar::client_read))]
-fn client_read(
+fn client_read<'a>(
     alloc: Global,
-    name: Word<'_>,
-    context: ContextOf<Word<'_>>,
-    setup: &mut Setup,
+    name: Word<'a>,
+    context: ContextOf<Word<'a>>,
+    setup: &mut Setup<'a>,
 ) -> Result<(), Refusal>
     requires { is_name_form name ≡ true }
     ensures { Becomes result setup.new (Reading.setup_read (form.Client name.entry context.entry) setup.old) }
@@ -152,24 +136,23 @@ fn client_read(
     if is_past_client(&name, &context, setup.parts().clients.len()) {
         return Err(Refusal::Fault(FaultKind::Limit));
     }
-    let sid = client_sid(&name, &context, setup.parts())?;
-    let name = Name::of(alloc, &name)?;
-    Ok(setup.add_client(name, sid)?)
+    let sid = client_sid(&name, &context, setup)?;
+    Ok(setup.add_client(alloc, &name, sid)?)
 }
 
 /// The identifier of a client that is to have a name.
 #[tactic(auto, unfolding(crate::specs::Grammar::client_sid))]
-fn client_sid(
-    name: &Word<'_>,
-    context: &ContextOf<Word<'_>>,
-    session: &SessionParts,
+fn client_sid<'a>(
+    name: &Word<'a>,
+    context: &ContextOf<Word<'a>>,
+    setup: &Setup<'a>,
 ) -> Result<Sid, Refusal>
-    ensures { Gives result (Grammar.client_sid name.now context.now session.now) }
+    ensures { Gives result (Grammar.client_sid name.now context.now setup.now.session) }
 {
-    let Some(sid) = sid_of(session, context) else {
+    let Some(sid) = setup.sid(context) else {
         return Err(Refusal::Fault(FaultKind::Undeclared));
     };
-    if is_named(session.clients.as_slice(), name) {
+    if is_named(setup, name) {
         return Err(Refusal::Fault(FaultKind::Twice));
     }
     Ok(sid)
@@ -183,25 +166,25 @@ fn is_past_client(name: &Word<'_>, context: &ContextOf<Word<'_>>, clients: usize
 }
 
 #[tactic(auto, unfolding(crate::specs::Grammar::is_named))]
-fn is_named(clients: &[ClientLine], name: &Word<'_>) -> bool
-    ensures { result ≡ Grammar.is_named clients.now name.now }
+fn is_named<'a>(setup: &Setup<'a>, name: &Word<'a>) -> bool
+    ensures { result ≡ Grammar.is_named setup.now.session.clients name.now }
 {
-    name.is(b"admin") || has_client(clients, name)
+    name.is(b"admin") || setup.has_client(name)
 }
 
 /// An `initial` line.
 #[tactic(auto, unfolding(crate::specs::Reading::setup_read, crate::specs::Grammar::initial_read))]
-fn initial_read(
+fn initial_read<'a>(
     what: Initial,
-    context: ContextOf<Word<'_>>,
-    setup: &mut Setup,
+    context: ContextOf<Word<'a>>,
+    setup: &mut Setup<'a>,
 ) -> Result<(), Refusal>
     ensures { Becomes result setup.new (Reading.setup_read (form.Initial what context.entry) setup.old) }
 {
     if context.is_long() {
         return Err(Refusal::Fault(FaultKind::Limit));
     }
-    match sid_of(setup.parts(), &context) {
+    match setup.sid(&context) {
         None => Err(Refusal::Fault(FaultKind::Undeclared)),
         Some(sid) => initial_with(what, sid, setup),
     }
@@ -209,7 +192,7 @@ fn initial_read(
 
 /// Whose context a declared one is to be: the root's or that of the ports, where no line gave it yet.
 #[tactic(auto, unfolding(crate::specs::Grammar::initial_with))]
-fn initial_with(what: Initial, sid: Sid, setup: &mut Setup) -> Result<(), Refusal>
+fn initial_with(what: Initial, sid: Sid, setup: &mut Setup<'_>) -> Result<(), Refusal>
     requires { IsSidOf setup.old.session.policy.contexts sid }
     ensures { Becomes result setup.new (Grammar.initial_with what sid setup.old) }
 {
@@ -232,13 +215,17 @@ fn initial_with(what: Initial, sid: Sid, setup: &mut Setup) -> Result<(), Refusa
 
 /// A `port` line.
 #[tactic(auto, unfolding(crate::specs::Reading::setup_read, crate::specs::Grammar::port_read, crate::specs::Grammar::port_with))]
-fn port_read(number: u64, context: ContextOf<Word<'_>>, setup: &mut Setup) -> Result<(), Refusal>
+fn port_read<'a>(
+    number: u64,
+    context: ContextOf<Word<'a>>,
+    setup: &mut Setup<'a>,
+) -> Result<(), Refusal>
     ensures { Becomes result setup.new (Reading.setup_read (form.Port number context.entry) setup.old) }
 {
     if is_past_port_line(number, &context, setup.parts().ports.len()) {
         return Err(Refusal::Fault(FaultKind::Limit));
     }
-    let Some(sid) = sid_of(setup.parts(), &context) else {
+    let Some(sid) = setup.sid(&context) else {
         return Err(Refusal::Fault(FaultKind::Undeclared));
     };
     let port = number as u32;
@@ -258,7 +245,7 @@ fn is_past_port_line(number: u64, context: &ContextOf<Word<'_>>, ports: usize) -
 
 /// An `audit` line.
 #[tactic(auto, unfolding(crate::specs::Reading::setup_read, crate::specs::Grammar::audit_read))]
-fn audit_read(setup: &mut Setup) -> Result<(), Refusal>
+fn audit_read(setup: &mut Setup<'_>) -> Result<(), Refusal>
     ensures { Becomes result setup.new (Reading.setup_read form.Audit setup.old) }
 {
     if setup.parts().audit {

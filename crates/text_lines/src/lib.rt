@@ -6,11 +6,13 @@
 #![tactic(auto)]
 
 mod fault;
+mod index;
 mod line;
 mod numerals;
 mod words;
 
 pub use fault::{FaultKind, Refusal, TextFault};
+pub use index::{Key, WordIndex};
 pub use line::{LINE_LIMIT, first_line, line_words};
 pub use numerals::{numeral, put_number};
 pub use words::Words;

@@ -1,7 +1,7 @@
 use Rattle.std.proofs.Common.{◌≡◌, [], Some, None, slice_get, option_copied, sym, ap, ◌∙◌}
 use Rattle.std.specs.Prelude.{unwrap_or}
 use Rattle.std.proofs.lemmas.Option.{unwrap_or-slice_get}
-use Rattle.policy_text.specs.declared.policy.KindLine.{KindLine}
+use Rattle.policy_model.specs.declared.policy.KindLine.{KindLine}
 use Rattle.policy_versions.specs.Places.{kind_at}
 use Rattle.flaskd_run.proofs.top.name_at.Goals as goal
 

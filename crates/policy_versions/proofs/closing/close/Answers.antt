@@ -1,6 +1,6 @@
 use Rattle.std.proofs.Common.{◌≡◌, ◌≤◌, ◌<◌, ◌∙◌, ℕ, length, refl, sym, ap, subst, arith, Err}
 use Rattle.std.specs.List.{All}
-use Rattle.policy_text.specs.declared.policy.PolicyParts.{PolicyParts}
+use Rattle.policy_model.specs.declared.policy.PolicyParts.{PolicyParts}
 use Rattle.policy_versions.specs.Given.{given_at}
 use Rattle.policy_versions.specs.Steps.{TakesVersions}
 use Rattle.policy_versions.specs.Founds.{IsInside, Leads}

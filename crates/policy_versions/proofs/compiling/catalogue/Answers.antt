@@ -1,5 +1,5 @@
 use Rattle.std.proofs.Common.{◌≡◌, ◌≤◌, ◌∙◌, length, ap, arith}
-use Rattle.policy_text.specs.declared.policy.PolicyParts.{PolicyParts}
+use Rattle.policy_model.specs.declared.policy.PolicyParts.{PolicyParts}
 use Rattle.policy_versions.proofs.NameLemmas.{few_versions}
 use Rattle.policy_versions.proofs.JudgingLemmas.{decides_same, tables_closed, places_many, kinds_same, has_room}
 use Rattle.policy_versions.proofs.compiling.catalogue.Goals as goal

@@ -1,5 +1,5 @@
 use Rattle.std.proofs.Common.{◌≤◌, ◌∙◌, length, ap, arith}
-use Rattle.policy_text.specs.declared.policy.PolicyParts.{PolicyParts}
+use Rattle.policy_model.specs.declared.policy.PolicyParts.{PolicyParts}
 use Rattle.policy_versions.proofs.DeclaredLemmas.{line_kind, contexts_more, inside_more, read_all, declared_few, declared_distinct}
 use Rattle.policy_versions.proofs.NameLemmas.{few_contexts}
 use Rattle.policy_versions.proofs.declared.declared_places.Goals as goal

@@ -1,5 +1,5 @@
 use Rattle.std.proofs.Common.{◌≡◌, ◌<◌, ◌≤◌, ◌∙◌, true, false, length, sym, arith}
-use Rattle.policy_text.specs.Matching.{matches_target}
+use Rattle.policy_model.specs.Matching.{matches_target}
 use Rattle.policy_versions.specs.Sets.{has_place}
 use Rattle.policy_versions.specs.Places.{kind_at}
 use Rattle.policy_versions.specs.Nevers.{break_at, break_from}

@@ -1,5 +1,5 @@
 use Rattle.std.proofs.Common.{◌≡◌, ◌<◌, ◌≤◌, ◌∙◌, length, sym, ap, arith}
-use Rattle.policy_text.specs.declared.policy.PolicyParts.{PolicyParts}
+use Rattle.policy_model.specs.declared.policy.PolicyParts.{PolicyParts}
 use Rattle.policy_versions.specs.Nevers.{first_break, break_in}
 use Rattle.policy_versions.proofs.NeverLemmas.{below_zero, below_found, below_next, below_full}
 use Rattle.policy_versions.proofs.TableLemmas.{versions_few}

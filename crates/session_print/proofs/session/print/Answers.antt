@@ -1,5 +1,5 @@
 use Rattle.std.proofs.Common.{◌≡◌, ◌∙◌, refl}
-use Rattle.policy_text.specs.Kept.{Kept}
+use Rattle.policy_model.specs.Kept.{Kept}
 use Rattle.session_print.specs.Printed
 use Rattle.session_print.proofs.PrintedLaws.{printed_parts}
 use Rattle.session_print.proofs.AgainLaws.{printed_again}

@@ -4,6 +4,5 @@ use Rattle.session_text.proofs.setup_lines.client_read.Goals as goal
 
 pub add_client-requires : goal.add_client-requires
 add_client-requires c =
-    rw c.in_ok-name.ensures
-    (client_may c.args.name c.args.context c.args.setup.now.session c.in_ok-sid.sid c.requires
-    (rw (c.len.ensures, c.parts.ensures) at (sym c.is_past_client.ensures ∙ c.if-is_past_client.false)) (rw c.parts-2.ensures at c.in_ok-sid.ensures))
+    client_may c.args.name c.args.context c.args.setup.now.session c.in_ok-sid.sid c.requires
+    (rw (c.len.ensures, c.parts.ensures) at (sym c.is_past_client.ensures ∙ c.if-is_past_client.false)) c.in_ok-sid.ensures

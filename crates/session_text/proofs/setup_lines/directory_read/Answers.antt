@@ -4,7 +4,5 @@ use Rattle.session_text.proofs.setup_lines.directory_read.Goals as goal
 
 pub add_node-requires : goal.add_node-requires
 add_node-requires c =
-    rw c.in_ok-path.ensures
-    (node_may c.args.path c.args.context c.args.setup.now.session c.in_ok-sid.sid None c.requires
-    (rw (c.len.ensures, c.parts.ensures) at (sym c.is_past_node.ensures ∙ c.if-is_past_node.false))
-    (rw (c.in_ok-path.ensures, c.parts-2.ensures) at c.in_ok-sid.ensures) tt)
+    node_may c.args.path c.args.context c.args.setup.now.session c.in_ok-sid.sid None c.requires
+    (rw (c.len.ensures, c.parts.ensures) at (sym c.is_past_node.ensures ∙ c.if-is_past_node.false)) c.in_ok-sid.ensures tt

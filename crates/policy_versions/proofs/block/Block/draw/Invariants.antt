@@ -1,5 +1,5 @@
 use Rattle.std.proofs.Common.{take}
-use Rattle.policy_text.specs.declared.policy.PolicyParts.{PolicyParts}
+use Rattle.policy_model.specs.declared.policy.PolicyParts.{PolicyParts}
 use Rattle.policy_versions.specs.Kinds.{AreKindsOf}
 use Rattle.policy_versions.specs.Changes.{AreRules, AllTell}
 use Rattle.policy_versions.proofs.block.Block.draw.Given as goal

@@ -1,6 +1,6 @@
 use Rattle.std.proofs.Common.{◌≡◌, true, false, sym, subst, arith}
 use Rattle.std.proofs.lemmas.Bool.Decides.{nat_tests}
-use Rattle.policy_text.specs.Matching.{is_same_class}
+use Rattle.policy_model.specs.Matching.{is_same_class}
 use Rattle.policy_versions.specs.Changes.{Tells}
 use Rattle.policy_versions.proofs.TellLemmas.{told_line, told_silent, told_other, gives_declared}
 use Rattle.policy_versions.proofs.block.Block.draw_line.Goals as goal

@@ -1,5 +1,5 @@
 use Rattle.std.proofs.Common.{◌≤◌, length, arith}
-use Rattle.policy_text.specs.Matching.{matches_source}
+use Rattle.policy_model.specs.Matching.{matches_source}
 use Rattle.policy_versions.proofs.kinds.Kinds.sources.Goals as goal
 
 pub returns-in-Named : goal.returns-in-Named

@@ -1,6 +1,6 @@
 use Rattle.std.proofs.Common.{◌≡◌, ◌+◌, ◌<◌, ◌≤◌, ◌∙◌, length, ap, arith}
 use Rattle.std.proofs.lemmas.List.{length_push}
-use Rattle.policy_text.specs.declared.policy.PolicyParts.{PolicyParts}
+use Rattle.policy_model.specs.declared.policy.PolicyParts.{PolicyParts}
 use Rattle.policy_versions.specs.Changes.{AreRules}
 use Rattle.policy_versions.proofs.TableLemmas.{versions_few, version_rules, rules_at-read, told_below, table_told}
 use Rattle.policy_versions.proofs.table.Table.compile.Goals as goal

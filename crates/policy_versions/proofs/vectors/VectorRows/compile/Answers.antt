@@ -1,4 +1,4 @@
-use Rattle.policy_text.specs.Deciding.{vector_of}
+use Rattle.policy_model.specs.Deciding.{vector_of}
 use Rattle.policy_versions.proofs.vectors.VectorRows.compile.Goals as goal
 
 pub returns : goal.returns

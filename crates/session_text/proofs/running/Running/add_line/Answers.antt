@@ -7,10 +7,14 @@ invariant_of-self c = rw c.in_err-add_line.ensures.err c.self.invariant
 
 pub note-requires : goal.note-requires
 note-requires c =
-    rw (c.self.invariant.count, c.of-change.ensures)
+    rw (c.self.invariant.held.count, c.of-change.ensures)
     (run_within (IsSidOf c.self.inside.session.policy.contexts) _ c.args.run (rw (← c.self.view_is) at c.requires.run))
 
 pub invariant_of-self-2 : goal.invariant_of-self-2
 invariant_of-self-2 c =
-    rw (c.in_ok-add_line.ensures.ok, c.note.ensures, c.of-change.ensures)
-    (line_noted c.self.inside.held c.self.inside.session c.args.line c.args.run c.self.invariant (rw (← c.self.view_is) at c.requires.run))
+    rw (c.in_ok-add_line.ensures.ok, c.note.ensures, c.of-change.ensures) (record {
+      held = line_noted c.self.inside.held c.self.inside.session c.args.line c.args.run c.self.invariant.held (rw (← c.self.view_is) at c.requires.run);
+      contexts = c.self.invariant.contexts;
+      clients = c.self.invariant.clients;
+      few = c.self.invariant.few;
+    })

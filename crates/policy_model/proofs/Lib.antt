@@ -1,0 +1,3 @@
+pub mod VectorLemmas
+pub mod DecidingLemmas
+pub mod GrowsLemmas

@@ -1,0 +1,4 @@
+pub mod Declarations
+pub mod Matching
+pub mod Deciding
+pub mod Kept

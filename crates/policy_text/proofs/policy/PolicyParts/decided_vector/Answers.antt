@@ -1,6 +1,0 @@
-use Rattle.std.proofs.Common.{sym, ◌∙◌}
-use Rattle.policy_text.proofs.DecidingLemmas.{none_allowed}
-use Rattle.policy_text.proofs.policy.PolicyParts.decided_vector.Goals as goal
-
-pub rules-init : goal.rules-init
-rules-init c = c.empty-vector.ensures ∙ sym (none_allowed _ _ _ _)

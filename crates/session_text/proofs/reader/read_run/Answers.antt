@@ -1,0 +1,32 @@
+use Rattle.std.proofs.Common.{◌≡◌, ◌<◌, sym, refl, arith}
+use Rattle.std.proofs.lemmas.List.Elements.{All-nil}
+use Rattle.session_text.specs.declared.session.RunLine.{RunLine}
+use Rattle.session_text.specs.Reading.{read_end}
+use Rattle.session_text.proofs.LineLemmas.{next_above}
+use Rattle.session_text.proofs.ReadingLemmas.{below_line, fails_at, at_end, run_line, run_refused}
+use Rattle.session_text.proofs.reader.read_run.Goals as goal
+
+pub lines-init : goal.lines-init
+lines-init c = record {
+  so_far = rw c.in-Ok.ensures.value refl;
+  counted = c.requires;
+  above = rw c.in-Ok.ensures.idle (All-nil (λ (line : RunLine). line.line < c.args.first));
+}
+
+pub lines-preserved : goal.lines-preserved
+lines-preserved c =
+    let counted = c.in-Ok-run_line_read.ensures.counted in
+    record {
+      so_far = below_line _ _ _ _ c.in-Some.line.now _ c.lines.invariant.so_far c.in-Some.ensures (run_line c.lines.number c.lines.running c.run_line_read.new.running c.in-Some.line.now c.in-Ok-run_line_read.ensures.said);
+      counted = omega (arith, counted);
+      above = next_above c.lines.number c.in-Some.line.now c.lines.running c.run_line_read.new.running c.lines.invariant.above c.in-Ok-run_line_read.ensures.said;
+    }
+
+pub returns-in-Err-run_line_read : goal.returns-in-Err-run_line_read
+returns-in-Err-run_line_read c =
+    fails_at _ _ _ c.in-Some.line.now c.refused_at.result _ c.lines.invariant.so_far c.in-Some.ensures
+    (run_refused c.lines.number c.lines.running c.in-Some.line.now c.in-Err-run_line_read.refusal c.refused_at.result c.in-Err-run_line_read.ensures.said c.refused_at.ensures)
+
+pub returns : goal.returns
+unfolding read_end
+returns c = rw c.finish.ensures (at_end _ _ _ c.lines.invariant.so_far c.in_default.ensures)
