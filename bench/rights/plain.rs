@@ -1,4 +1,4 @@
-//! The same work as the proved program of `rights_bench`, as a Rust programmer writes it: grants by place, the places of each
+//! The same work as the proved program of this folder, as a Rust programmer writes it: grants by place, the places of each
 //! pair, and stale places as bits.
 //!
 //! `plain_rights SLOTS STALE ROUNDS` fills SLOTS slots for each of 62 clients, all on objects of one label, and changes the

@@ -1,4 +1,4 @@
-//! The same work as the proved program of `rows_bench`, as a Rust programmer writes it: rows of cells by the places of
+//! The same work as the proved program of this folder, as a Rust programmer writes it: rows of cells by the places of
 //! types, drawn a line at a time.
 //!
 //! `plain_rows WORK ROUNDS` reads a policy text from standard input, does the work ROUNDS times, and prints the

@@ -1,4 +1,4 @@
-//! The same work as the proved program of `files_bench`, as a Rust programmer writes it: numbered nodes, each directory with
+//! The same work as the proved program of this folder, as a Rust programmer writes it: numbered nodes, each directory with
 //! its entries by key and name, and slots by place.
 //!
 //! `plain_files SESSION FIRST ROUNDS` reads the session in the file SESSION, does its first FIRST calls once, and the rest

@@ -1,32 +1,20 @@
-#!/usr/bin/env python3
-"""Measures the sessions of `flaskd generate`, and reading and printing a session's text, beside a plain Rust program.
-
-    bench/sessions                 builds the programs but for flaskd, measures, and prints the table
-    bench/sessions --measure       measures the programs that an earlier run left in bench/out
-    bench/sessions --runs N        takes N runs of each program for a figure; otherwise 11
-    bench/sessions --program PATH  takes another flaskd than crates/flaskd/out/flaskd, which ./flaskd or ./check builds
+"""The sessions of `flaskd generate`, and reading and printing a session's text.
 
 `generate 7 8 90000` is measured as a whole program, less its start, which is `generate 7 8 1`. Both programs must print the
 same summary. The plain one keeps no session for it, so making one is measured alone too. A text to read is drawn: 80,000
 lines that run, of all calls, below 16 clients and 40 files and directories. Both programs read it, or print what they read,
-many times; what they made or read they must print as the same bytes. A figure is processor time.
+many times; what they made or read they must print as the same bytes.
 """
 
-import argparse
-import datetime
 import os
-import pathlib
 import random
-import statistics
 import subprocess
 import sys
 
-import building
+import timing
 
-FLASKD = building.TOP / "crates" / "flaskd" / "out" / "flaskd"
-PROVED = building.OUT / "sessions_bench"
-PLAIN = building.OUT / "plain_sessions"
-LINE = "sessions_bench: session_generator session_print session_text flask_sid"
+RUNS = 11
+CRATES = "session_generator session_print session_text flask_sid"
 LINES = 80_000
 ROUNDS = 10
 ABOVE = """policy 1
@@ -123,7 +111,7 @@ def text(lines):
 
 
 def generated(program, lines):
-    """The summary of a made session, and the milliseconds of a processor that the whole program took."""
+    """The summary of a made session, and the nanoseconds of a processor that the whole program took."""
     words = [str(program), "generate", "7", "8", str(lines)]
     child = subprocess.Popen(words, stdin=subprocess.DEVNULL, stdout=subprocess.PIPE, text=True)
     said = child.stdout.read()
@@ -132,65 +120,34 @@ def generated(program, lines):
     child.returncode = os.waitstatus_to_exitcode(status)
     if child.returncode != 0:
         sys.exit(f"bench: {' '.join(words)} ended with {child.returncode}")
-    return said, (usage.ru_utime + usage.ru_stime) * 1_000
+    return said, (usage.ru_utime + usage.ru_stime) * 1e9
 
 
 def made_times(programs, runs):
-    """Milliseconds of a processor for the made session without the program's start, of each program, for each run."""
-    figures = {program: [] for program in programs}
+    """Nanoseconds of a processor for the made session without the program's start, of each program, for each run."""
+    figures = [[] for _ in programs]
     for _ in range(runs):
         said = set()
-        for program in programs:
+        for program, found in zip(programs, figures):
             start = generated(program, 1)[1]
             summary, took = generated(program, 90_000)
             said.add(summary)
-            figures[program].append(took - start)
-        if len(said) > 1:
-            sys.exit(f"bench: the programs made and ran other sessions: {said}")
-    return figures
-
-
-def times(work, session, pieces, runs):
-    """Milliseconds of a processor for one piece, of the proved and of the plain program, for each run."""
-    figures = {PROVED: [], PLAIN: []}
-    for _ in range(runs):
-        sums = set()
-        for program in figures:
-            words = [str(program), work, str(ROUNDS)]
-            told = subprocess.run(words, input=session, capture_output=True, check=True, text=True).stdout.split()
-            sums.add(tuple(told[1:]))
-            figures[program].append(int(told[0]) / 1e6 / ROUNDS / pieces)
-        if len(sums) > 1:
-            sys.exit(f"bench: {work}: the two programs printed {sums}")
+            found.append(took - start)
+        timing.agreed("the made sessions", said)
     return figures
 
 
 def row(name, proved, plain):
-    def shown(figures):
-        return f"{min(figures):.2f} / {statistics.median(figures):.2f}" if figures else ""
-
-    ratio = f"{statistics.median(proved) / statistics.median(plain):.2f}" if proved else ""
-    print(f"| {name} | {shown(proved)} | {shown(plain)} | {ratio} |", flush=True)
+    timing.row(name, timing.shown(proved, 1_000_000, 2), timing.shown(plain, 1_000_000, 2), timing.ratio(proved, plain))
 
 
-def main():
-    words = argparse.ArgumentParser(description=__doc__, formatter_class=argparse.RawDescriptionHelpFormatter)
-    words.add_argument("--measure", action="store_true")
-    words.add_argument("--runs", type=int, default=11)
-    words.add_argument("--program", type=pathlib.Path, default=FLASKD)
-    asked = words.parse_args()
-    if not asked.measure:
-        building.plain("plain_sessions.rs", PLAIN)
-        building.proved("sessions_bench", LINE, PROVED)
+def measure(programs, asked):
     flaskd = asked.program.resolve()
     if not flaskd.exists():
         print(f"bench: {flaskd} is not there, so `generate` is measured of the plain program alone\n", file=sys.stderr)
-    load = " ".join(pathlib.Path("/proc/loadavg").read_text().split()[:3])
-    print(f"{datetime.datetime.now(datetime.timezone.utc):%Y-%m-%d %H:%M} UTC; {asked.runs} runs; load before: {load}\n")
-    print("| piece of work | proved, best / median, ms | plain Rust | ratio of medians |")
-    print("|---|---|---|---|")
-    made = made_times([flaskd, PLAIN] if flaskd.exists() else [PLAIN], asked.runs)
-    row("`generate 7 8 90000`, less its start", made.get(flaskd), made[PLAIN])
+    timing.head("piece of work", "proved, best / median, ms", "plain Rust", "ratio of medians")
+    *proved, plain = made_times([flaskd, programs.plain] if flaskd.exists() else [programs.plain], asked.runs)
+    row("`generate 7 8 90000`, less its start", proved[0] if proved else [], plain)
     session = text(LINES)
     megabytes = len(session) / 1e6
     for work, name, pieces in (
@@ -198,9 +155,4 @@ def main():
         ("read", "a session text read, for each megabyte", megabytes),
         ("print", "a session printed, for each megabyte", megabytes),
     ):
-        figures = times(work, session, pieces, asked.runs)
-        row(name, figures[PROVED], figures[PLAIN])
-
-
-if __name__ == "__main__":
-    main()
+        row(name, *timing.both(programs, (work, ROUNDS), ROUNDS * pieces, asked.runs, session))

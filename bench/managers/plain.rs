@@ -1,4 +1,4 @@
-//! The same work as the proved program of `managers_bench`, as a Rust programmer writes it: processes and ports by number, slots
+//! The same work as the proved program of this folder, as a Rust programmer writes it: processes and ports by number, slots
 //! by place, and the messages of a port in a queue.
 //!
 //! `plain_managers CASE ROUNDS` does the two calls of a case ROUNDS times, under a policy that allows all. It prints the

@@ -1,6 +1,6 @@
-//! The same work as `flaskd generate` and as the proved program of `sessions_bench`, as a Rust programmer writes it: a table
+//! The same work as `flaskd generate` and as the proved program of this folder, as a Rust programmer writes it: a table
 //! of vectors, numbered nodes, slots by client and number, and while a change is pending a list of the stale ones. Reading
-//! and printing are in `plain_session_text.rs`.
+//! and printing are in `session_text.rs`.
 //!
 //! `plain_sessions generate SEED CLIENTS LINES` makes the session of these numbers, runs it, and prints its summary.
 //! `plain_sessions read ROUNDS` and `plain_sessions print ROUNDS` read a session from standard input, and read or print it
@@ -9,10 +9,10 @@
 //!
 //! It runs the lines that made sessions have, and them alone: no operation is begun or ended, no slot is freed, and of a
 //! label only the type matters. It keeps neither the session nor a history, and has no audit lines.
-mod plain_session_text;
+mod session_text;
 
-use plain_session_text::{Client, Context, Data, FileCall, Mode, Number, Path, Place};
-use plain_session_text::{PortCall, ProcessCall, Run, Session, Slot, put_number, read};
+use session_text::{Client, Context, Data, FileCall, Mode, Number, Path, Place};
+use session_text::{PortCall, ProcessCall, Run, Session, Slot, put_number, read};
 use std::collections::{BTreeMap, HashMap, VecDeque};
 use std::hint::black_box;
 use std::io::Read;

@@ -1,7 +1,7 @@
 //! The same work as the proved program of this folder, as a Rust programmer writes it: a gate word and two leave
 //! counters, two ticket words, 512 cache rows in one table, and a boxed value that the holder of the turn takes out.
 //!
-//! `plain WORK THREADS ROUNDS` prints the nanoseconds from the first thread's beginning to the last one's end, those of
+//! `plain_gate WORK THREADS ROUNDS` prints the nanoseconds from the first thread's beginning to the last one's end, those of
 //! all processors together, and a sum that tells the work was done.
 use std::cell::{Cell, UnsafeCell};
 use std::sync::atomic::{AtomicU64, Ordering::SeqCst};
