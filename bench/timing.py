@@ -123,7 +123,7 @@ def ratio(proved, plain):
 
 def head(*cells):
     row(*cells)
-    row(*("---" for _ in cells))
+    print("|" + "---|" * len(cells))
 
 
 def row(*cells):
