@@ -1,3 +1,5 @@
+//! A question and its answer.
+
 use crate::perm::Perm;
 use flask_sid::Sid;
 

@@ -1,3 +1,5 @@
+//! What a manager asks: a decider at one version.
+
 ghost use Rattle.std.specs.Prelude.{◌≡◌, ℕ, ◌<◌, IsTrue, List, Option};
 ghost use Rattle.access_vectors.specs.Decisions.{Decisions, IsClosed};
 ghost use Rattle.access_vectors.specs.Asking.{Key, with_key, counted, Alike};

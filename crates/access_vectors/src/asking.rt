@@ -1,3 +1,5 @@
+//! Asking one question, which is kept with its answer.
+
 ghost use Rattle.std.specs.Prelude.{◌≡◌, [], ◌∷◌, ◌++◌, IsTrue, IfOk, OnOk, OnErr};
 ghost use Rattle.access_vectors.specs.Asking.{question, with_key, counted};
 

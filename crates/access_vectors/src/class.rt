@@ -1,3 +1,5 @@
+//! The classes of objects, by their codes and their names.
+
 ghost use Rattle.std.specs.Prelude.{◌≡◌, ◌≤◌};
 ghost use Rattle.access_vectors.specs.Table.{code_of, perm_count, class_coded, class_word, class_named};
 

@@ -1,3 +1,5 @@
+//! What decides.
+
 ghost use Rattle.std.specs.Prelude.{◌≡◌, ◌<◌, IsTrue};
 ghost use Rattle.access_vectors.specs.Decisions.{Decisions, IsClosed};
 

@@ -1,3 +1,5 @@
+//! The permissions of each class, by their places and their names.
+
 ghost use Rattle.std.specs.Prelude.{◌≡◌, ◌<◌, map, SomeIff};
 ghost use Rattle.std.specs.List.{position};
 ghost use Rattle.std.specs.Str.{bytes_eq};

@@ -1,3 +1,5 @@
+//! Where a policy change stands.
+
 ghost use Rattle.std.specs.Prelude.{◌≡◌};
 ghost use Rattle.access_vectors.specs.Phases;
 

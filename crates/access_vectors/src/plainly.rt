@@ -1,3 +1,5 @@
+//! The asker without a cache.
+
 ghost use Rattle.std.specs.Prelude.{◌≡◌, ◌<◌};
 
 use crate::asker::Asker;

@@ -1,3 +1,5 @@
+//! The questions of a call, in their order.
+
 ghost use Rattle.std.specs.Prelude.{◌≡◌, [], ◌∷◌, ◌++◌, length, OnOk, OnErr, IfOk, slice_get};
 ghost use Rattle.std.specs.Option.{option_copied};
 

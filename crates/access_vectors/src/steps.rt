@@ -1,3 +1,5 @@
+//! A count of steps, by which contracts bound the cost of a call.
+
 ghost use Rattle.std.specs.Prelude.{◌≡◌, ◌+◌, ◌<◌};
 
 use std::marker::Model;

@@ -1,3 +1,5 @@
+//! Access vectors: sets of permissions of one class.
+
 ghost use Rattle.std.specs.Prelude.{◌≡◌, ◌<◌, bit_and};
 ghost use Rattle.access_vectors.specs.Vectors;
 

@@ -1,3 +1,5 @@
+//! The asker of a gate's cache, for a seat with a pass.
+
 ghost use Rattle.std.specs.Prelude.{◌≡◌};
 ghost use Rattle.gate_rule.specs.declared.view.Pass.TheVariants.{Inside};
 ghost use Rattle.epoch_gate.specs.Seats.{IsOfGate};

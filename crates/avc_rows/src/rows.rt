@@ -1,3 +1,5 @@
+//! A check: a look at a key's row, and on a miss the decider and a fill.
+
 ghost use Rattle.std.specs.Prelude.{◌≡◌, ◌∷◌, [], ◌++◌, IsTrue};
 ghost use Rattle.epoch_gate.specs.Seats.{IsOfGate, key_of};
 ghost use Rattle.epoch_gate.specs.Known.{decider_of, HasPass, keys_served, vector_for};

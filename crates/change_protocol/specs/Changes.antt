@@ -78,7 +78,7 @@ AreBoth R None (Some now) = ⊥
 AreBoth R (Some was) None = ⊥
 AreBoth R (Some was) (Some now) = R was now
 
--- the same with what was said there
+-- a relation of what stands at a place before and after and of what was said there
 abbrev pub AreAll : {A S : Type 0} → (A → A → S → Type 0) → Option A → Option A → Option S → Type 0
 AreAll R None None None = Unit {0}
 AreAll R (Some was) (Some now) (Some said) = R was now said
@@ -143,7 +143,7 @@ pub record IsTold {Manager : Type 0} (seen : Manager → Seen) (version : ℕ) (
   pub notified : IsNotified version (seen was) (seen now) said
   pub given_is : is_ok said ≡ given
 
--- the same round, where it is not said yet what number is given and why it is refused
+-- a round of notices, where it is not said yet what number is given and why one is refused
 pub record IsToldAt {Manager : Type 0} (seen : Manager → Seen) (version first reached place : ℕ) (was now : Manager) : Type 0 where
   pub before : place < first → now ≡ was
   pub given : first ≤ place → place < reached → IsTold seen version true was now
@@ -173,7 +173,7 @@ said_of (acks.Busy older) = saying.Busy older
 said_of (acks.Behind left) = saying.Behind left
 said_of acks.Idle = saying.Idle
 
--- a receipt is kept
+-- a manager says that its receipt is kept
 abbrev pub is_kept : Said → Bool
 is_kept saying.Kept = true
 is_kept other = false
@@ -206,7 +206,7 @@ abbrev pub ack_all_answer : Phase → List Said → AckAll
 ack_all_answer (Settled number version) said = acking.Idle
 ack_all_answer (Pending number old new) said = if list_all is_kept said then acking.Complete number else acking.Waiting
 
--- where the number is complete
+-- what holds where the answer is that the number is complete
 abbrev pub IfComplete : AckAll → (ℕ → Type 0) → Type 0
 IfComplete acking.Idle P = Unit {0}
 IfComplete (acking.Complete number) P = P number

@@ -1,3 +1,5 @@
+//! Commands, and the ranges of their numbers.
+
 ghost use Rattle.std.specs.Prelude.{◌≡◌, ◌≤◌, IfSome};
 ghost use Rattle.command_line.specs.Arguments.{told};
 ghost use Rattle.command_line.specs.Commands;

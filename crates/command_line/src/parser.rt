@@ -1,3 +1,5 @@
+//! The parser of the words, and the command that it finds.
+
 ghost use Rattle.std.specs.Prelude.{◌≡◌, ◌≢◌, true, None, codes, IfOk};
 ghost use Rattle.std.specs.List.{list_all};
 ghost use Rattle.clap.specs.Words.{FailsBy, app_of, fault_of, first_value, found_of, kind_of, matches_of, rows_of};

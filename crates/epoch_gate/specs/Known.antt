@@ -117,7 +117,7 @@ module _ {E D O : Type 0} where
   abbrev pub current_number : Shown E D O → ℕ
   current_number a = a.view.desk.newest
 
-  -- its version
+  -- the version of the current policy number
   abbrev pub current_version : Shown E D O → ℕ
   current_version a = a.view.desk.version
 
@@ -141,7 +141,7 @@ module _ {E D O : Type 0} where
   abbrev pub stale_left : Shown E D O → ℕ
   stale_left a = a.view.desk.left
 
-  -- its turns
+  -- the turns that it had, newest last
   abbrev pub turns_had : Shown E D O → List (Item E)
   turns_had a = a.view.desk.turns
 

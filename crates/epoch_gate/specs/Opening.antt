@@ -3,7 +3,7 @@ use Rattle.std.specs.Prelude.{◌≡◌, ℕ, ◌==◌, nat_lt, ◌||◌, Bool, 
 use Rattle.epoch_gate.specs.declared.fault.GateFault.{GateFault}
 use Rattle.epoch_gate.specs.declared.fault.GateFault.TheVariants.{Seats, Quota, Most, Memory}
 
--- not 1 to the most
+-- a number that is not from 1 to the most
 abbrev pub is_outside : ℕ → ℕ → Bool
 is_outside n most = n == 0 || nat_lt most n
 

@@ -1,3 +1,5 @@
+//! Why there is no gate.
+
 /// Why there is no gate, tested in this order.
 #[derive(Clone, Copy, Debug, PartialEq, Eq)]
 pub enum GateFault {

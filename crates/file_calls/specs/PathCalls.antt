@@ -22,7 +22,7 @@ abbrev pub class_of : Option (List ℕ) → Class
 class_of None = class.Dir
 class_of (Some bytes) = class.File
 
--- and the permissions of that class to be made, to be looked at, and to get another label
+-- the permissions of what holds this to be made, to be looked at, and to get another label
 abbrev pub create_perm : Option (List ℕ) → Permission
 create_perm None = dir_create
 create_perm (Some bytes) = file_create

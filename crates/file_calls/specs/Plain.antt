@@ -73,7 +73,7 @@ followed_by r state (call.Unlink path) said follows = when_done said (follows_wi
 followed_by r state (call.Relabel path sid) said follows = when_done said (follows_moved state (walked r state path).at r.number follows) follows
 followed_by r state other said follows = follows
 
--- the same after a caller's call, which is done under a number and its version
+-- what the slots follow after a caller's call under a policy number and its version
 abbrev pub followed : Decisions → FileState → ℕ → FileCall → ℕ → ℕ → FileReply → Follows → Follows
 followed d state caller call number version said follows = followed_by (request_of d state caller number version) state call said follows
 

@@ -1,3 +1,5 @@
+//! The calls of the file manager, and its replies.
+
 use crate::path::FilePath;
 use access_vectors::{Perm, Vector};
 use flask_sid::{Piece, Rows, Sid};

@@ -1,3 +1,5 @@
+//! A first opening: one client and one file.
+
 ghost use Rattle.std.specs.Prelude.{◌≡◌, ◌∷◌, [], IfOk, Some, codes};
 ghost use Rattle.file_calls.specs.Example.{AnswersOfDay, one_file_opening};
 

@@ -1,3 +1,5 @@
+//! What a file manager is opened with.
+
 use crate::path::FilePath;
 use flask_sid::{Piece, Rows, Sid};
 

@@ -1,3 +1,5 @@
+//! Paths, as lists of their parts.
+
 ghost use Rattle.std.specs.Prelude.{◌≡◌, ◌-◌, ◌==◌, [], ◌∷◌, ◌++◌, length, take, OnOk, OnErr, slice_get};
 ghost use Rattle.std.specs.Option.{option_copied};
 ghost use Rattle.file_calls.specs.Paths.{same_path};

@@ -69,7 +69,7 @@ pub record IsEntryOf (nodes : Nodes) (directory object : ℕ) : Type 0 where
   pub there : is_some (maps.get nodes object) ≡ true
   pub below : object ≡ 0 → ⊥
 
--- it is missing in this directory, under this key and name
+-- the entry of a walk is missing in this directory, under this key and name
 pub record IsMissingIn (nodes : Nodes) (walk : Walk) (spot : Spot) (name : List ℕ) : Type 0 where
   pub through : walk.stop ≡ None
   pub item : maps.get (plain nodes) walk.at ≡ None

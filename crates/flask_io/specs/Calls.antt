@@ -12,11 +12,11 @@ pub record Calls : Type 0 where
   pub failing : List ℕ
   pub faults : ℕ
 
--- no call yet
+-- a stream of which no call was asked yet, by the numbers of those that fail
 abbrev pub none_of : List ℕ → Calls
 none_of failing = record { asked = 0; failing = failing; faults = 0 }
 
--- one more, but for the greatest number of 64 bits, which stays
+-- a number and one more, but for the greatest number of 64 bits, which stays
 abbrev pub counted : ℕ → ℕ
 counted n = min (n + 1) (2 ^ 64 - 1)
 
@@ -24,7 +24,7 @@ counted n = min (n + 1) (2 ^ 64 - 1)
 abbrev pub is_due : Calls → Bool
 is_due calls = list_any (λ number. number == counted calls.asked) calls.failing
 
--- the last call failed
+-- with one failure more
 abbrev pub failed_of : Calls → Calls
 failed_of calls = record calls { faults = counted calls.faults }
 
@@ -37,12 +37,12 @@ one_more calls false = record { asked = counted calls.asked; failing = calls.fai
 abbrev pub next_of : Calls → Calls
 next_of calls = one_more calls (is_due calls)
 
--- a read failed
+-- what a read answered is a failure
 abbrev pub is_failed : Got → Bool
 is_failed Failed = true
 is_failed got = false
 
--- a write failed
+-- what a write answered is a failure
 abbrev pub is_refused : Put → Bool
 is_refused Refused = true
 is_refused put = false

@@ -8,7 +8,7 @@ use Rattle.flask_io.specs.declared.memory.MemorySink.{MemorySink}
 abbrev pub bytes_left : MemorySource → List ℕ
 bytes_left source = source.left.now
 
--- the reads
+-- the reads that were asked of a source
 abbrev pub calls_of_source : MemorySource → Calls
 calls_of_source source = source.calls
 
@@ -16,6 +16,6 @@ calls_of_source source = source.calls
 abbrev pub bytes_written : MemorySink → List ℕ
 bytes_written sink = sink.bytes.items
 
--- the writes
+-- the writes that were asked of a sink
 abbrev pub calls_of_sink : MemorySink → Calls
 calls_of_sink sink = sink.calls

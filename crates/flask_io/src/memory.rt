@@ -1,3 +1,5 @@
+//! A source and a sink over memory.
+
 ghost use Rattle.std.specs.Prelude.{◌≡◌, ◌<◌, ◌≤◌, [], length, Some};
 ghost use Rattle.std.specs.Bool.{OnTrue};
 

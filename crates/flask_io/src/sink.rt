@@ -1,3 +1,5 @@
+//! Where bytes go.
+
 ghost use Rattle.std.specs.Prelude.{◌≡◌, ◌<◌, length};
 
 /// What one write did.

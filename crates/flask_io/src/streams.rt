@@ -1,3 +1,5 @@
+//! A source and a sink over std's streams.
+
 ghost use Rattle.std.specs.Prelude.{◌≡◌, ◌<◌, ◌≤◌, length, None, IfSome};
 
 use crate::{Got, Put, Sink, Source};

@@ -28,7 +28,7 @@ context_of word = short_context (context_form word)
     short_context None = None
     short_context (Some context) = if is_long_context context then None else Some context
 
--- the text of a context
+-- the text of a context: user, role and type, with `:` between them
 unfoldable pub context_text : ContextOf (List ℕ) → List ℕ
 context_text context = context.user ++ codes ":" ++ context.role ++ codes ":" ++ context.kind
 

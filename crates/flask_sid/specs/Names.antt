@@ -11,7 +11,7 @@ is_lower b = nat_le 97 b && nat_le b 122
 abbrev pub is_name_byte : ℕ → Bool
 is_name_byte b = is_lower b || (nat_le 48 b && nat_le b 57) || b == 95
 
--- a word that would be a name but for its length
+-- a word that would be a name but for its length: a lower-case letter, and then such bytes
 unfoldable pub is_name_form : List ℕ → Bool
 is_name_form [] = false
 is_name_form (b ∷ bs) = is_lower b && list_all is_name_byte bs
@@ -20,7 +20,7 @@ is_name_form (b ∷ bs) = is_lower b && list_all is_name_byte bs
 unfoldable pub is_long : List ℕ → Bool
 is_long word = nat_lt 32 (length word)
 
--- a name: 1 to 32 bytes
+-- a name: such a word of 1 to 32 bytes
 unfoldable pub is_name : List ℕ → Bool
 is_name word = is_name_form word && not (is_long word)
 

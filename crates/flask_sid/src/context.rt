@@ -1,3 +1,5 @@
+//! Security contexts: user, role and type.
+
 ghost use Rattle.std.specs.Prelude.{◌≡◌, Some, None, Ok, Err, IfOk};
 ghost use Rattle.flask_sid.specs.Contexts;
 

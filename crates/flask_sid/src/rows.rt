@@ -1,3 +1,5 @@
+//! Growing lists.
+
 ghost use Rattle.std.specs.Prelude.{◌≡◌, ◌==◌, [], ◌∷◌, ◌++◌, length, OnOk, OnErr, MatchOption, slice_get};
 ghost use Rattle.std.specs.Option.{option_copied};
 

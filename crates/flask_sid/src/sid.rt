@@ -1,3 +1,5 @@
+//! Security identifiers.
+
 ghost use Rattle.std.specs.Prelude.{◌≡◌, ◌+◌, ◌-◌, ◌<◌, ◌≤◌, SomeIff};
 
 use std::marker::Model;

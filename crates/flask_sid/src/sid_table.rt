@@ -1,3 +1,5 @@
+//! The table of contexts that have identifiers.
+
 ghost use Rattle.std.specs.Prelude.{◌≡◌, ◌==◌, ◌↔◌, ◌<◌, ◌≤◌, [], ◌∷◌, false, length, is_some, IfOk, OnErr};
 ghost use Rattle.std.specs.Option.{option_copied};
 ghost use Rattle.flask_sid.specs.SidTables;

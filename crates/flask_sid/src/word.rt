@@ -1,3 +1,5 @@
+//! Words of a text, and which of them are names.
+
 ghost use Rattle.std.specs.Prelude.{◌≡◌, ◌==◌, [], ◌∷◌, MatchOption};
 ghost use Rattle.std.specs.List.{list_all, position, slice_split};
 ghost use Rattle.std.specs.Str.{bytes_eq};

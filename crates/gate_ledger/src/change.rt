@@ -1,3 +1,5 @@
+//! A change of policy at a gate over a ledger: the notice and the acknowledgement.
+
 ghost use Rattle.std.specs.Prelude.{◌≡◌, IfOk, IfErr, OnErr};
 ghost use Rattle.epoch_gate.specs.Seats.{IsOfGate};
 ghost use Rattle.epoch_gate.specs.Known.{IsIdle, seats_made, seats_retired, seen_by, greatest_number, versions_at};

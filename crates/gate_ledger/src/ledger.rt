@@ -1,3 +1,5 @@
+//! A list of lines, as the value of a gate.
+
 ghost use Rattle.std.specs.Prelude.{◌≡◌, ◌+◌, ◌<◌, [], ◌∷◌, ◌++◌, None, IfOk, IfErr, OnOk, MatchResult};
 ghost use Rattle.gate_rule.specs.History.{settled, noticed, settled_in, last_notice, Alternates};
 ghost use Rattle.gate_ledger.specs.Lines.{kind_of};

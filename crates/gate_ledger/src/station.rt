@@ -1,3 +1,5 @@
+//! A caller's call at a gate over a ledger.
+
 ghost use Rattle.std.specs.Prelude.{◌≡◌, [], ◌∷◌, ◌++◌, OnOk, OnErr};
 ghost use Rattle.epoch_gate.specs.Seats.{IsOfGate};
 ghost use Rattle.epoch_gate.specs.Known.{IsIdle, HasPass, own_entries, caller_number, pass_held, pass_number, quota_left};

@@ -11,7 +11,7 @@ FitsRow decides newest version w =
     (w ≡ 0)
     ⊎ ((n : ℕ) × (s : ℕ) × (t : ℕ) × (c : Class) × (v : ℕ) × (w ≡ row_word n s t c v) × IsRow n s t v × (n ≤ newest) × (v ≡ decides.vector (version n) s t c))
 
--- words 5 to 516 are such
+-- the rows of a table: each of words 5 to 516 is empty or such a row
 abbrev pub Rows : Decisions → ℕ → (ℕ → ℕ) → List ℕ → Type 0
 Rows decides newest version words = (i : ℕ) → 5 ≤ i → i < 517 → FitsRow decides newest version (slice_index words i)
 

@@ -1,4 +1,4 @@
--- The rule of a gate, in eight parts: entry budget, passes counted and pass numbers (`passes`), cached rows (`rows`), the turn (`tickets`, `place`), the value at rest and the one that is out (`noticed`, `dated`, `place`), the histories seen (`each`, `promised`, `unmade`) and clearance (in `passes`).
+-- The rule of a gate. It has eight parts: entry budget, passes counted and pass numbers (`passes`), cached rows (`rows`), the turn (`tickets`, `place`), the value at rest and the one that is out (`noticed`, `dated`, `place`), the histories seen (`each`, `promised`, `unmade`) and clearance (in `passes`).
 use Rattle.std.specs.Prelude.{◌≡◌, ℕ, ◌+◌, ◌-◌, ◌*◌, ◌<◌, ◌≤◌, ◌⊎◌, Bool, true, false, List, [], ◌∷◌, map, length, slice_index, Option, Some}
 use Rattle.std.specs.List.{sum_by}
 use Rattle.std.specs.FinMap as maps

@@ -30,7 +30,7 @@ version_in w = (split_gate w).1
 abbrev pub passes_in : ℕ → ℕ
 passes_in w = (split_gate w).2
 
--- a word after one more
+-- a word after 1 was added to it
 abbrev pub one_more : ℕ → ℕ
 one_more n = (n + 1) % 18446744073709551616
 
@@ -42,11 +42,11 @@ leave_word number = 1 + number % 2
 abbrev pub done : ℕ → ℕ → ℕ → StepDone
 done word found left = record { word = word; found = found; left = left }
 
--- one step more
+-- a trace with one step more
 abbrev pub traced : Trace → StepDone → Trace
 traced t d = record { steps = t.steps + 1; last = d; earlier = t.last }
 
--- no step yet
+-- the trace of no step
 abbrev pub untraced : Trace
 untraced = record { steps = 0; last = done 0 0 0; earlier = done 0 0 0 }
 
@@ -72,7 +72,7 @@ is_caller Spent = 0
 is_caller (Caller n) = 1
 is_caller Admin = 0
 
--- not given up
+-- a role that was not given up: a caller's or the administrator's
 abbrev pub IsLive : Role → Type 0
 IsLive Spent = ⊥
 IsLive (Caller n) = Unit {0}
@@ -114,15 +114,15 @@ module _ {E D O : Type 0} where
   abbrev pub entered : View E D O → ℕ → View E D O
   entered v n = record v { rights = record { pass = Inside (number_in n) (version_in n); quota = v.rights.quota - 1 }; trace = traced v.trace (done 0 n (one_more n)) }
 
-  -- no pass
+  -- after its pass was given back
   abbrev pub left : View E D O → ℕ → View E D O
   left v n = record v { rights = record v.rights { pass = Out }; trace = traced v.trace (done (leave_word (number_of v.rights.pass)) n (one_more n)) }
 
-  -- a ticket
+  -- after it drew a ticket
   abbrev pub drawn : View E D O → ℕ → View E D O
   drawn v n = record v { ticket = Drawn n; trace = traced v.trace (done 3 n (one_more n)) }
 
-  -- not this seat's turn yet
+  -- after a look at the ticket served, which is not the seat's
   abbrev pub missed : View E D O → ℕ → View E D O
   missed v n = record v { trace = traced v.trace (done 4 n n) }
 

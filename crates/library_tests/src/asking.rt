@@ -1,3 +1,5 @@
+//! Tests of the names in the table of classes, and of a question.
+
 ghost use Rattle.std.specs.Prelude.{◌≡◌, ◌<◌};
 
 use access_vectors::perms::FILE_READ;

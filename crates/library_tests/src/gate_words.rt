@@ -1,3 +1,5 @@
+//! A test of packed words.
+
 use access_vectors::{Class, Vector};
 use flask_sid::Sid;
 use row_words::{gate_word, row_place, row_word, split_gate, split_row};

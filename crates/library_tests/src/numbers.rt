@@ -1,3 +1,5 @@
+//! A test of numbers, written and read.
+
 use flask_sid::{Piece, Word};
 use std::test::Fail;
 use text_lines::{numeral, put_number};

@@ -1,3 +1,5 @@
+//! A test of a policy that is read and printed.
+
 use policy_print::print;
 use policy_text::read;
 use std::test::Fail;

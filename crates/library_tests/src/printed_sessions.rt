@@ -1,3 +1,5 @@
+//! A test of a session that is read and printed.
+
 use session_print::print;
 use session_text::read;
 use std::test::Fail;

@@ -1,3 +1,5 @@
+//! A test of the first number past the last identifier.
+
 use flask_sid::{Context, InternFault, MOST_CONTEXTS, SidTable};
 use std::alloc::Global;
 use std::test::Fail;

@@ -1,3 +1,5 @@
+//! Tests of the tree of files.
+
 ghost use Rattle.std.specs.Prelude.{◌≡◌, true, OnOk};
 ghost use Rattle.std.specs.FinMap as maps;
 ghost use Rattle.file_tree.specs.Nodes.{is_directory};

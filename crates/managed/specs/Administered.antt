@@ -6,7 +6,7 @@ use Rattle.access_vectors.specs.declared.class.Class.{Class}
 use Rattle.managed.specs.Posts.{Stood, post_of, stale_on, older_on}
 use Rattle.managed.specs.Seen.{Seen, event_of}
 
--- it tells older passes, what slots follow and the stale slots, and no items
+-- what the administrator sees of it: older passes, what slots follow and the stale slots are told, and items are not
 abbrev pub seen_of : {Core Decider Call Reply State : Type 0} → (Decider → Decisions) → Class → (State → ℕ → Option Pair)
     → (Core → State) → (Core → Follows) → Stood Core Decider Call Reply → Seen
 seen_of decides class pair_of state follows plain = record {

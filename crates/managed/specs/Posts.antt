@@ -63,7 +63,7 @@ asked_in (Some (Ack number)) = []
 unfoldable pub last_asked : {Call Reply : Type 0} → List (Entry Call Reply) → List Asked
 last_asked history = asked_in (slice_get history (length history - 1))
 
--- the same with other held passes
+-- where a manager stands, with other held passes
 abbrev pub with_held : {State : Type 0} → Post State → List (Option ℕ) → Post State
 with_held post held = record { state = post.state; follows = post.follows; phase = post.phase; held = held }
 
@@ -127,7 +127,7 @@ abbrev pub IsNamed : Phase → Option ℕ → Type 0
 IsNamed phase None = Unit {0}
 IsNamed phase (Some number) = MayName phase number
 
--- every held pass has
+-- every held pass has a policy number that may be named
 abbrev pub AreNamed : Phase → List (Option ℕ) → Type 0
 AreNamed phase [] = Unit {0}
 AreNamed phase (one ∷ held) = IsNamed phase one × AreNamed phase held
@@ -153,7 +153,7 @@ pub record IsSameManager {Core Decider Call Reply State : Type 0} (opening : Cor
   pub manager : new.keeper.manager ≡ old.keeper.manager
   pub most : new.most ≡ old.most
 
--- and no change was tried
+-- it is the same manager, at which no change was tried
 pub record IsSameUntried {Core Decider Call Reply State : Type 0} (opening : Core → State) (old new : Stood Core Decider Call Reply) : Type 0 where
   pub opened : opening new.keeper.core ≡ opening old.keeper.core
   pub decider : new.keeper.decider ≡ old.keeper.decider

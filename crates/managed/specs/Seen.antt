@@ -91,7 +91,7 @@ pub record IsNotNoticed (version : ℕ) (old new : Seen) (fault : NotifyFault) :
   pub history : IsGrown (is_some old.follows) old.history new.history []
   pub items : MayHaveItem old.items new.items
 
--- the one or the other
+-- a notice that was given, or one that was refused
 abbrev pub IsAnswered : ℕ → Seen → Seen → Result ℕ NotifyFault → Type 0
 IsAnswered version old new (Ok number) = IsNoticed version old new number
 IsAnswered version old new (Err fault) = IsNotNoticed version old new fault
@@ -148,7 +148,7 @@ pub record IsTried (old new : Seen) (done : Bool) : Type 0 where
   pub left_shown : new.shown.left ≡ new.shown.found
   pub items : HasItem old.items new.items (acknowledging_item old.phase done)
 
--- and else it is none
+-- where no change is pending an acknowledgement is no try
 pub record IsIdle (old new : Seen) : Type 0 where
   pub untried : IsUntried old new
   pub items : MayHaveItem old.items new.items

@@ -89,7 +89,7 @@ pub record MayRule (kinds : List KindLine) (attributes : List AttributeLine) (se
   pub few : length seen < rule_limit
   pub good : IsRule kinds attributes rule
 
--- versions are few
+-- versions are few, and so are the rule lines of each
 pub record MayVersion (kinds : List KindLine) (attributes : List AttributeLine) (seen : List Version) (version : Version) : Type 0 where
   pub few : length seen < version_limit
   pub rules : Grows (MayRule kinds attributes) [] version.rules

@@ -17,11 +17,11 @@ pub record Reading : Type 0 where
   pub number : ℕ
   pub above : Option PolicyParts
 
--- above the first line
+-- where reading stands above the first line
 abbrev pub begun : Reading
 begun = record { number = 1; above = None }
 
--- below one line more
+-- where it stands below one line more, or the fault of that line
 unfoldable pub read_on : Reading → List ℕ → Result Reading LineFault
 read_on reading line =
     at_line reading.number (line_read reading.number line reading.above) >>= λ above. Ok (record { number = reading.number + 1; above = above })

@@ -75,6 +75,6 @@ pub record IsSafe (d : Decisions) (shown : Shown) : Type 0 where
   pub known : IsOpening d shown.opening
   pub rights : Fit d shown.rights
 
--- the same as a word, which rows pass on unread
+-- that promise, as a word that rows pass on unread
 unfoldable pub Safe : Decisions → Shown → Type 0
 Safe d shown = IsSafe d shown

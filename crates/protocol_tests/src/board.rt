@@ -1,3 +1,5 @@
+//! A day of the example board, with a change of policy.
+
 ghost use Rattle.std.specs.Prelude.{◌≡◌, ◌∷◌, [], IfOk};
 ghost use Rattle.example_board.specs.Plain.{IsCall};
 

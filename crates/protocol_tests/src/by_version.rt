@@ -1,3 +1,5 @@
+//! A decider of two versions.
+
 use access_vectors::{Class, Decider, Vector};
 use flask_sid::Sid;
 

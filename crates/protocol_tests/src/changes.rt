@@ -1,3 +1,5 @@
+//! A change over three fake managers, of which one wants memory at its first notice.
+
 ghost use Rattle.std.specs.Prelude.{◌≡◌};
 
 use crate::by_version::ByVersion;

@@ -1,3 +1,5 @@
+//! Tests of a keeper over a core of one object.
+
 ghost use Rattle.std.specs.Prelude.{false, ◌≡◌, ◌<◌};
 
 use crate::by_version::ByVersion;

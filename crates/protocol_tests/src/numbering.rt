@@ -1,3 +1,5 @@
+//! Tests of the server's numbers and receipts.
+
 use crate::by_version::ByVersion;
 use security_server::{ProposeFault, Receipt, ReceiptFault, Server};
 use std::test::Fail;

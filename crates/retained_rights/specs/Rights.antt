@@ -73,7 +73,7 @@ pub record IsFit (d : Decisions) (rights : Rights) : Type 0 where
   pub stale : rights.stale ≡ stale_slots d rights.class rights.phase (pair_in rights.held) (follows_of rights)
   pub versions : AreVersions d.versions rights.phase
 
--- the same as a word, which callers pass on unread
+-- the promise between grants and a decider, as a word that callers pass on unread
 unfoldable pub Fit : Decisions → Rights → Type 0
 Fit d rights = IsFit d rights
 
@@ -124,7 +124,7 @@ moved d rule class version t number grant =
       number = number;
     }
 
--- each grant on the object moved so
+-- the grants, those on the object moved to the pair with t
 abbrev pub all_moved : Decisions → Rule → Class → ℕ → ℕ → ℕ → ℕ → FinMap nat_cmp Grant → FinMap nat_cmp Grant
 all_moved d rule class version object t number held =
     mapped (λ place grant. if grant.object == object then moved d rule class version t number grant else grant) held
@@ -133,7 +133,7 @@ all_moved d rule class version object t number held =
 abbrev pub revised : Decisions → Rule → Class → ℕ → ℕ → Grant → Grant
 revised d rule class version number grant = moved d rule class version grant.t number grant
 
--- the grants at those places revised
+-- the grants, those at these places revised
 abbrev pub all_revised : Decisions → Rule → Class → ℕ → ℕ → List ℕ → FinMap nat_cmp Grant → FinMap nat_cmp Grant
 all_revised d rule class version number places held =
     mapped (λ place grant. if list_any (λ one. one == place) places then revised d rule class version number grant else grant) held

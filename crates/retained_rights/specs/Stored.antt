@@ -60,7 +60,7 @@ IsNextGrant held test from None = (other : ℕ) → from ≤ other → test othe
 IsNextGrant held test from (Some found) =
     IsFound test from found.0 × (maps.get held found.0 ≡ Some found.1) × (found.0 < 65536)
 
--- the same for at most so many more
+-- the same where at most so many more are wanted: `None` also where no more are
 abbrev pub IsNextDue : FinMap nat_cmp Grant → (ℕ → Bool) → ℕ → ℕ → Option (ℕ × Grant) → Type 0
 IsNextDue held test from left None = (left ≡ 0) ⊎ ((other : ℕ) → from ≤ other → test other ≡ false)
 IsNextDue held test from left (Some found) =

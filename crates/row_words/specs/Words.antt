@@ -31,11 +31,11 @@ row_word number s t c v = number * 17592186044416 + s * 4294967296 + t * 1048576
 abbrev pub source_field : ℕ → ℕ
 source_field w = w / 4294967296 % 4096
 
--- its target field
+-- the target field of a word
 abbrev pub target_field : ℕ → ℕ
 target_field w = w / 1048576 % 4096
 
--- its class code field
+-- the class code field of a word
 abbrev pub class_field : ℕ → ℕ
 class_field w = w / 65536 % 16
 
@@ -52,6 +52,6 @@ answer_with w (Some c) = Some (w / 17592186044416, source_field w, target_field 
 abbrev pub split_row : ℕ → Option (ℕ × ℕ × ℕ × Class × ℕ)
 split_row w = if source_field w == 0 || target_field w == 0 then None else answer_with w (class_coded (class_field w))
 
--- the row of a key
+-- the place of a key's row among the 512 rows
 abbrev pub row_place : ℕ → ℕ → Class → ℕ
 row_place s t c = (31 * s + 7 * t + code_of c) % 512

@@ -1,3 +1,5 @@
+//! The gate word: policy number, version and passes entered.
+
 ghost use Rattle.std.specs.Prelude.{◌≡◌, ℕ, ◌+◌, ◌*◌, ◌%◌, ◌<◌};
 ghost use Rattle.row_words.specs.Words;
 

@@ -1,3 +1,5 @@
+//! The words of cache rows, and the place of a key's row.
+
 ghost use Rattle.std.specs.Prelude.{◌≡◌, ℕ, ◌<◌, ◌⊎◌, ◌↔◌, Some, None, IfSome, IsNone};
 ghost use Rattle.access_vectors.specs.declared.class.Class.{Class as AnyClass};
 ghost use Rattle.row_words.specs.Words;

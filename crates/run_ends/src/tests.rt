@@ -1,3 +1,5 @@
+//! Tests of how a run ends where reads and writes fail, or bytes come and go one by one.
+
 use flask_io::{Got, MemorySink, MemorySource, Put, Sink, Source};
 use flask_sid::{Piece, Word};
 use flaskd_run::{NoStops, Status, flaskd};

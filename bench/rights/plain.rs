@@ -1,0 +1,157 @@
+//! The same work as the proved program of this folder, as a Rust programmer writes it: grants by place, the places of each
+//! pair, and stale places as bits.
+//!
+//! `plain_rights SLOTS STALE ROUNDS` fills SLOTS slots for each of 62 clients, all on objects of one label, and changes the
+//! policy ROUNDS times between two versions that differ on the pairs of the first STALE clients: notice, update of all,
+//! acknowledgement. It prints the nanoseconds of a processor that the changes took, how many slots were stale in all, and how
+//! many may read at the end.
+use std::env;
+
+const CLIENTS: usize = 62;
+const READ: u16 = 1;
+
+#[derive(Clone, Copy)]
+struct Grant {
+    source: u16,
+    target: u16,
+    mode: u16,
+    bits: u16,
+    number: u32,
+}
+
+struct Pair {
+    source: u16,
+    target: u16,
+    places: Vec<u32>,
+}
+
+#[derive(Clone, Copy)]
+enum Phase {
+    Settled { number: u32, version: usize },
+    Pending { number: u32, new: usize },
+}
+
+/// Two versions, of which the second allows the first sources nothing.
+struct Decider {
+    stale: u16,
+}
+
+impl Decider {
+    fn vector(&self, version: usize, source: u16, _target: u16) -> u16 {
+        if version == 1 && source <= self.stale { 0 } else { READ }
+    }
+}
+
+struct Grants {
+    held: Vec<Option<Grant>>,
+    pairs: Vec<Pair>,
+    stale: Vec<u64>,
+    left: usize,
+    phase: Phase,
+}
+
+impl Grants {
+    fn add(&mut self, place: usize, grant: Grant) {
+        self.held[place] = Some(grant);
+        let found = self.pairs.iter_mut().find(|pair| pair.source == grant.source && pair.target == grant.target);
+        match found {
+            Some(pair) => pair.places.push(place as u32),
+            None => {
+                let Grant { source, target, .. } = grant;
+                self.pairs.push(Pair { source, target, places: vec![place as u32] });
+            }
+        }
+    }
+
+    fn notify(&mut self, decider: &Decider, new: usize) {
+        let Phase::Settled { number, version: old } = self.phase else { return };
+        for pair in &self.pairs {
+            let before = decider.vector(old, pair.source, pair.target);
+            if before != decider.vector(new, pair.source, pair.target) {
+                for &place in &pair.places {
+                    self.stale[place as usize / 64] |= 1 << (place % 64);
+                    self.left += 1;
+                }
+            }
+        }
+        self.phase = Phase::Pending { number: number + 1, new };
+    }
+
+    fn update(&mut self, decider: &Decider, most: usize) -> usize {
+        let Phase::Pending { number, new } = self.phase else { return 0 };
+        let mut most = most.min(self.left);
+        self.left -= most;
+        for at in 0..self.stale.len() {
+            while most > 0 && self.stale[at] != 0 {
+                let place = at * 64 + self.stale[at].trailing_zeros() as usize;
+                self.stale[at] &= self.stale[at] - 1;
+                most -= 1;
+                if let Some(grant) = &mut self.held[place] {
+                    grant.bits = grant.mode & decider.vector(new, grant.source, grant.target);
+                    grant.number = number;
+                }
+            }
+            if most == 0 {
+                break;
+            }
+        }
+        self.left
+    }
+
+    fn acknowledge(&mut self) {
+        if let (Phase::Pending { number, new }, 0) = (self.phase, self.left) {
+            self.phase = Phase::Settled { number, version: new };
+        }
+    }
+}
+
+fn opened(slots: usize, decider: &Decider) -> Grants {
+    let mut grants = Grants {
+        held: vec![None; 256 * CLIENTS],
+        pairs: Vec::new(),
+        stale: vec![0; 4 * CLIENTS],
+        left: 0,
+        phase: Phase::Settled { number: 0, version: 0 },
+    };
+    for client in 0..CLIENTS {
+        for slot in 0..slots {
+            let (source, target) = (client as u16 + 1, 100);
+            let bits = READ & decider.vector(0, source, target);
+            grants.add(256 * client + slot, Grant { source, target, mode: READ, bits, number: 0 });
+        }
+    }
+    grants
+}
+
+/// Nanoseconds of a processor that this process took so far.
+fn clock() -> u64 {
+    #[repr(C)]
+    struct Time {
+        seconds: i64,
+        nanoseconds: i64,
+    }
+    unsafe extern "C" {
+        fn clock_gettime(clock: i32, time: *mut Time) -> i32;
+    }
+    let mut time = Time { seconds: 0, nanoseconds: 0 };
+    unsafe { clock_gettime(2, &mut time) };
+    time.seconds as u64 * 1_000_000_000 + time.nanoseconds as u64
+}
+
+fn main() {
+    let words: Vec<usize> = env::args().skip(1).filter_map(|word| word.parse().ok()).collect();
+    let [slots, stale, rounds] = words[..] else { return };
+    let decider = Decider { stale: stale as u16 };
+    let mut grants = opened(slots, &decider);
+    let begun = clock();
+    let mut sum = 0u64;
+    for round in 0..rounds {
+        grants.notify(&decider, (round + 1) % 2);
+        sum += grants.left as u64;
+        grants.update(&decider, usize::MAX);
+        grants.acknowledge();
+    }
+    let took = clock() - begun;
+    let usable = grants.held.iter().flatten().filter(|grant| grant.bits == READ).count();
+    println!("{took} {sum} {usable}");
+}

@@ -1,0 +1,145 @@
+"""What all measurements share: their programs, built into bench/out, and the figures of repeated runs.
+
+The proved program of a measurement is a crate of its own, whose files stand in bench/NAME/proved with .txt behind their names,
+since the gate takes no source outside the crates that crates.txt names. It is built in a temporary copy of the repository. With
+no proofs built before, the copy proves the crates below first, which takes some minutes.
+"""
+
+import datetime
+import os
+import pathlib
+import re
+import shutil
+import statistics
+import subprocess
+import sys
+import tempfile
+
+BENCH = pathlib.Path(__file__).resolve().parent
+TOP = BENCH.parent
+OUT = BENCH / "out"
+FLASKD = TOP / "crates" / "flaskd" / "out" / "flaskd"
+RUSTC = ["rustc", "-O", "-C", "codegen-units=1", "--edition", "2024"]
+
+
+class Programs:
+    """The proved program of a measurement and the plain one, and how they are built."""
+
+    def __init__(self, name, crates):
+        """`crates` is what the proved one stands on, as a line of crates.txt has it behind the name."""
+        self.folder = BENCH / name
+        self.crate = f"{name}_bench"
+        self.line = f"{self.crate} {crates}" if crates.startswith("may_wait") else f"{self.crate}: {crates}"
+        self.proved = OUT / self.crate
+        self.plain = OUT / f"plain_{name}"
+
+    def build(self):
+        OUT.mkdir(exist_ok=True)
+        subprocess.run([*RUSTC, str(self.folder / "plain.rs"), "-o", str(self.plain)], check=True)
+        with tempfile.TemporaryDirectory() as place:
+            crate = self.copied_to(pathlib.Path(place))
+            log = OUT / f"{self.crate}.log"
+            with open(log, "w") as lines:
+                built = subprocess.run(["rt", "run"], cwd=crate, stdin=subprocess.DEVNULL, stdout=lines, stderr=lines)
+            if built.returncode != 0:
+                sys.exit(f"bench: no program was built; {log} says why")
+            shutil.copy(crate / "out" / self.crate, self.proved)
+
+    def copied_to(self, place):
+        """The folder of the crate in a copy of what it needs."""
+        names = needed_crates(self.line)
+        for needed in names:
+            shutil.copytree(TOP / "crates" / needed, place / "crates" / needed)
+        shutil.copy(TOP / "HANDLES", place)
+        lines = (TOP / "crates.txt").read_text().splitlines(keepends=True)
+        kept = [text for text in lines if text.split() and text.split()[0].rstrip(":") in names]
+        (place / "crates.txt").write_text("".join(kept) + self.line + "\n")
+        crate = place / "crates" / self.crate
+        for path in (self.folder / "proved").rglob("*.txt"):
+            target = crate / path.relative_to(self.folder / "proved").with_suffix("")
+            target.parent.mkdir(parents=True, exist_ok=True)
+            shutil.copy(path, target)
+        return crate
+
+
+def needed_crates(line):
+    """The crates of this repository that a line of crates.txt stands on, those below them too."""
+    below = {}
+    for text in (TOP / "crates.txt").read_text().splitlines():
+        head, _, tail = text.partition("#")[0].partition(":")
+        if head.strip():
+            below[head.split()[0]] = tail.split()
+    wanted, found = line.partition(":")[2].split(), set()
+    while wanted:
+        name = wanted.pop()
+        if name in below and name not in found:
+            found.add(name)
+            wanted.extend(below[name])
+    return found
+
+
+def told(program, words, given=None):
+    """The words that a run prints."""
+    command = [str(program), *(str(word) for word in words)]
+    return subprocess.run(command, input=given, capture_output=True, check=True, text=True).stdout.split()
+
+
+def agreed(name, said):
+    """Ends the measurement where the programs told different things of their work."""
+    if len(said) > 1:
+        sys.exit(f"bench: {name}: the programs told {said}")
+
+
+def times(programs, words, pieces, runs, given=None):
+    """Nanoseconds of a processor for one piece, of each of the programs, for each run.
+
+    A run prints the nanoseconds that it took and then what it did, which all programs must tell alike.
+    """
+    figures = [[] for _ in programs]
+    for _ in range(runs):
+        said = set()
+        for program, found in zip(programs, figures):
+            took, *rest = told(program, words, given)
+            said.add(tuple(rest))
+            found.append(int(took) / pieces)
+        agreed(words, said)
+    return figures
+
+
+def both(programs, words, pieces, runs, given=None):
+    """The same of the proved program and the plain one."""
+    return times((programs.proved, programs.plain), words, pieces, runs, given)
+
+
+def shown(figures, unit=1, digits=0):
+    """The best run and the median run, in units of so many nanoseconds."""
+    return f"{min(figures) / unit:.{digits}f} / {statistics.median(figures) / unit:.{digits}f}" if figures else ""
+
+
+def ratio(proved, plain):
+    """The ratio of medians."""
+    return f"{statistics.median(proved) / statistics.median(plain):.2f}" if proved and plain else ""
+
+
+def head(*cells):
+    row(*cells)
+    print("|" + "---|" * len(cells))
+
+
+def row(*cells):
+    line = " | ".join(str(cell) for cell in cells)
+    print(f"| {line} |".replace("|  |", "| |"), flush=True)
+
+
+def load():
+    return " ".join(pathlib.Path("/proc/loadavg").read_text().split()[:3])
+
+
+def processor():
+    names = re.findall(r"model name\s*: (.*)", pathlib.Path("/proc/cpuinfo").read_text())
+    return f"{os.cpu_count()} cores, {names[0] if names else 'unknown'}"
+
+
+def headline(runs):
+    now = datetime.datetime.now(datetime.timezone.utc)
+    return f"{processor()}; {now:%Y-%m-%d %H:%M} UTC; {runs} runs; load before: {load()}\n"
