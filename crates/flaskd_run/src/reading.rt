@@ -1,3 +1,5 @@
+//! Reading the source to its end, up to the input limit.
+
 ghost use Rattle.std.specs.Prelude.{◌≡◌, ◌+◌, ◌<◌, ◌≤◌, [], ◌++◌, length, Err, IfOk, OnOk, vec_len, vec_capacity};
 ghost use Rattle.flask_io.specs.Streams.{Takes, HasCause};
 ghost use Rattle.flaskd_run.specs.Reading.{IsEnd, TakesOn, IsMore};

@@ -1,3 +1,5 @@
+//! What the program says of a status on standard error.
+
 use crate::status::Status;
 use access_vectors::{class_name, perm_name};
 use flask_sid::Name;

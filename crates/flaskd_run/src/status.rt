@@ -1,3 +1,5 @@
+//! How the program ends, and the exit code of each end.
+
 ghost use Rattle.std.specs.Prelude.{◌≡◌};
 ghost use Rattle.flaskd_run.specs.Top;
 

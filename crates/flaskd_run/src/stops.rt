@@ -1,3 +1,5 @@
+//! Where a test may hold a worker of a threaded run.
+
 /// Where a test may hold a worker of a threaded run: before and past each of its lines. No run has workers yet, so
 /// nothing calls it.
 pub trait Stops {

@@ -1,3 +1,5 @@
+//! The top call: which command is asked, the session that is read or made, its policy compiled, and its run.
+
 ghost use Rattle.std.specs.Prelude.{◌≡◌, ◌⊎◌, ℕ, false, IsTrue, Some, None, Ok, Err, IfOk, OnOk, OnErr};
 ghost use Rattle.flask_io.specs.Streams.{Adds, HasCause};
 ghost use Rattle.command_line.specs.Commands.{command_of, IsWithin};

@@ -1,3 +1,5 @@
+//! A line offered to the sink until it has taken the whole.
+
 ghost use Rattle.std.specs.Prelude.{OnOk, OnErr, IsErr};
 ghost use Rattle.flask_io.specs.Streams.{Adds, HasCause};
 ghost use Rattle.flaskd_run.specs.Writing.{AddsFront};

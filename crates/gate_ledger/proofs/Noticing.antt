@@ -6,10 +6,11 @@ use Rattle.access_vectors.specs.Phases.{number_of}
 use Rattle.gate_rule.specs.History.{Alternates, settled_in, last_notice}
 use Rattle.gate_rule.proofs.Histories.{phase_settled, phase_pending}
 use Rattle.gate_ledger.specs.declared.ledger.Line.{Line}
-use Rattle.gate_ledger.specs.declared.ledger.NotifyFault.{NotifyFault}
-use Rattle.gate_ledger.specs.declared.ledger.NotifyFault.TheVariants.{Pending, NoVersion, Spent, Memory}
+use Rattle.access_vectors.specs.declared.change.NotifyFault.{NotifyFault}
+use Rattle.access_vectors.specs.declared.change.NotifyFault.TheVariants.{Pending, NoVersion, Spent, Memory}
 use Rattle.gate_ledger.specs.Lines.{kind_of}
-use Rattle.gate_ledger.specs.Changes.{phase_after, notice_fault, IsRefusal}
+use Rattle.access_vectors.specs.Notices.{IsRefusal}
+use Rattle.gate_ledger.specs.Changes.{phase_after, notice_fault}
 
 is_below : (a b : ℕ) → a < b → nat_lt a b ≡ true
 is_below a b h = grind (arith, nat_tests)

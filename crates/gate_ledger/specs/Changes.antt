@@ -10,8 +10,8 @@ use Rattle.epoch_gate.specs.Seats.{Shown}
 use Rattle.epoch_gate.specs.Known.{seen_by, steps_made, last_step, found_last, step_before, found_before, current_number, current_version, passes_counted, cleared_below, turns_had}
 use Rattle.gate_ledger.specs.declared.ledger.Line.{Line}
 use Rattle.gate_ledger.specs.declared.ledger.Line.TheVariants.{Noticed, Settled}
-use Rattle.gate_ledger.specs.declared.ledger.NotifyFault.{NotifyFault}
-use Rattle.gate_ledger.specs.declared.ledger.NotifyFault.TheVariants as faults
+use Rattle.access_vectors.specs.declared.change.NotifyFault.{NotifyFault}
+use Rattle.access_vectors.specs.declared.change.NotifyFault.TheVariants as faults
 use Rattle.gate_ledger.specs.declared.change.Acknowledged.{Acknowledged}
 use Rattle.gate_ledger.specs.declared.change.Acknowledged.TheVariants.{Done, Busy, Idle}
 use Rattle.gate_ledger.specs.Lines.{kind_of}
@@ -25,11 +25,6 @@ abbrev pub notice_fault : Phase → ℕ → ℕ → ℕ → Option NotifyFault
 notice_fault (phases.Pending pending old new) versions version most = Some (faults.Pending pending)
 notice_fault (phases.Settled settled old) versions version most =
     if nat_lt version versions then (if nat_lt settled most then None else Some faults.Spent) else Some faults.NoVersion
-
--- a refusal is that fault, and where there is none it is want of memory
-abbrev pub IsRefusal : Option NotifyFault → NotifyFault → Type 0
-IsRefusal None fault = fault ≡ faults.Memory
-IsRefusal (Some cause) fault = fault ≡ cause
 
 -- the item of a turn over ledgers, which have no stale slots
 abbrev pub turn_of : Option Line → Option ℕ → Item Line

@@ -3,10 +3,11 @@
 ghost use Rattle.std.specs.Prelude.{◌≡◌, IfOk, IfErr, OnErr};
 ghost use Rattle.epoch_gate.specs.Seats.{IsOfGate};
 ghost use Rattle.epoch_gate.specs.Known.{IsIdle, seats_made, seats_retired, seen_by, greatest_number, versions_at};
-ghost use Rattle.gate_ledger.specs.Changes.{phase_after, notice_fault, IsRefusal, HasNotified, HasNotNotified, HasAnswered, HasNoRoom};
+ghost use Rattle.access_vectors.specs.Notices.{IsRefusal};
+ghost use Rattle.gate_ledger.specs.Changes.{phase_after, notice_fault, HasNotified, HasNotNotified, HasAnswered, HasNoRoom};
 
-use crate::ledger::{Ledger, Line, NotifyFault};
-use access_vectors::Decider;
+use crate::ledger::{Ledger, Line};
+use access_vectors::{Decider, NotifyFault};
 use epoch_gate::{Admin, Gate};
 use flask_sid::Memory;
 use std::sync::Wait;

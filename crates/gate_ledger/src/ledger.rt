@@ -3,9 +3,10 @@
 ghost use Rattle.std.specs.Prelude.{◌≡◌, ◌+◌, ◌<◌, [], ◌∷◌, ◌++◌, None, IfOk, IfErr, OnOk, MatchResult};
 ghost use Rattle.gate_rule.specs.History.{settled, noticed, settled_in, last_notice, Alternates};
 ghost use Rattle.gate_ledger.specs.Lines.{kind_of};
-ghost use Rattle.gate_ledger.specs.Changes.{phase_after, notice_fault, IsRefusal};
+ghost use Rattle.access_vectors.specs.Notices.{IsRefusal};
+ghost use Rattle.gate_ledger.specs.Changes.{phase_after, notice_fault};
 
-use access_vectors::Decider;
+use access_vectors::{Decider, NotifyFault};
 use gate_rule::Journal;
 use std::alloc::Global;
 use std::snapshot::Snapshot;
@@ -19,18 +20,6 @@ pub enum Line {
     Noticed(u32, u8),
     /// The acknowledgement of a policy number.
     Settled(u32),
-}
-
-/// Why no change was begun.
-#[derive(Clone, Copy, Debug, PartialEq, Eq)]
-pub enum NotifyFault {
-    /// This number is pending.
-    Pending(u32),
-    /// The decider has no such version.
-    NoVersion,
-    /// The greatest number is in use.
-    Spent,
-    Memory,
 }
 
 /// A list of lines, with the last acknowledged and the last noticed policy number.

@@ -7,5 +7,6 @@ mod ledger;
 mod station;
 
 pub use change::{Acknowledged, acknowledge, notify};
-pub use ledger::{Ledger, Line, NotifyFault};
+pub use access_vectors::NotifyFault;
+pub use ledger::{Ledger, Line};
 pub use station::call;

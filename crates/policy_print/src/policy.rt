@@ -1,3 +1,5 @@
+//! A policy printed as a text, line by line in the order in which the reader wants them.
+
 ghost use Rattle.std.specs.Prelude.{◌≡◌, ◌++◌, ◌≤◌, OnOk, IfOk, length};
 ghost use Rattle.text_lines.specs.Lines.{lines_of, line_limit};
 ghost use Rattle.policy_print.specs.Printed;

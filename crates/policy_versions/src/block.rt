@@ -1,3 +1,5 @@
+//! The rows of one version and class while its lines are drawn into them.
+
 ghost use Rattle.std.specs.Prelude.{◌≡◌, ℕ, ◌<◌, ◌&&◌, ◌==◌, ◌∷◌, ◌++◌, [], List, length};
 ghost use Rattle.policy_model.specs.declared.policy.PolicyParts.{PolicyParts};
 ghost use Rattle.policy_model.specs.declared.policy.RuleLine.{RuleLine};

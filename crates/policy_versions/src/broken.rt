@@ -1,3 +1,5 @@
+//! How a version allows what a `neverallow` line forbids.
+
 use crate::kind::Kind;
 use access_vectors::Perm;
 

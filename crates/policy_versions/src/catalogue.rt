@@ -1,3 +1,5 @@
+//! The compiled policy, which decides for each version by the identifiers of its contexts.
+
 ghost use Rattle.std.specs.Prelude.{◌≡◌, ◌+◌, ◌*◌, ◌<◌, ◌≤◌, IsTrue, length};
 ghost use Rattle.std.specs.List.{All};
 ghost use Rattle.access_vectors.specs.Decisions.{IsClosed};

@@ -1,3 +1,5 @@
+//! What a line of a policy does to a cell of a table.
+
 ghost use Rattle.std.specs.Prelude.{◌≡◌, true};
 ghost use Rattle.policy_model.specs.declared.policy.PolicyParts.{PolicyParts};
 ghost use Rattle.policy_model.specs.Declarations.{is_kind};

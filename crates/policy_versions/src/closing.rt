@@ -1,3 +1,5 @@
+//! All contexts to which the declared ones lead, found round by round.
+
 ghost use Rattle.std.specs.Prelude.{◌≡◌, Err, length, OnOk};
 ghost use Rattle.std.specs.List.{All};
 ghost use Rattle.policy_versions.specs.declared.fill.FillFault.TheVariants as fill_fault;

@@ -1,3 +1,5 @@
+//! A policy compiled, or why it is not.
+
 ghost use Rattle.std.specs.Prelude.{◌≡◌, None};
 ghost use Rattle.policy_versions.specs.declared.compiling.CompileFault.TheVariants as compile_fault;
 ghost use Rattle.policy_versions.specs.Given.{AreGivenOf};

@@ -1,3 +1,5 @@
+//! The contexts of a compiled policy, with identifiers in their order and the places of its tables.
+
 ghost use Rattle.std.specs.Prelude.{◌≡◌, ◌≤◌, Err, length, take, IfOk};
 ghost use Rattle.std.specs.List.{All, IsDistinct};
 ghost use Rattle.flask_sid.specs.SidTables.{AreDistinct};

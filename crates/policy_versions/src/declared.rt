@@ -1,3 +1,5 @@
+//! The declared contexts by the numbers of their rows and types.
+
 ghost use Rattle.std.specs.Prelude.{◌≡◌, ◌≤◌, length, IfOk};
 ghost use Rattle.std.specs.List.{All, IsDistinct};
 ghost use Rattle.policy_versions.specs.Closure.{declared_contexts};

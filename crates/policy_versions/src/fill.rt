@@ -1,3 +1,5 @@
+//! Why a set of contexts is not filled.
+
 use flask_sid::Memory;
 use std::alloc::AllocFailed;
 

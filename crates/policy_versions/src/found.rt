@@ -1,3 +1,5 @@
+//! The set of contexts that were found so far.
+
 ghost use Rattle.std.specs.Prelude.{◌≡◌, ℕ, ◌*◌, ◌<◌, ◌≤◌, Err, true, List, length, slice_get, OnOk, OnErr, IfOk, IfSome, if◌then◌else◌};
 ghost use Rattle.std.specs.List.{All, IsDistinct};
 ghost use Rattle.policy_versions.specs.declared.place.Place.{Place};

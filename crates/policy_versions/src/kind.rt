@@ -1,3 +1,5 @@
+//! A type by its place among the declared ones.
+
 ghost use Rattle.std.specs.Prelude.{◌≡◌, ◌<◌, SomeIff};
 
 use std::marker::Model;

@@ -1,3 +1,5 @@
+//! A set of types that a walk goes over in few steps.
+
 ghost use Rattle.std.specs.Prelude.{◌≡◌, ℕ, ◌<◌, ◌≤◌, ◌==◌, ◌||◌, true, false, min, slice_index};
 ghost use Rattle.policy_versions.specs.Sets.{has_place, AreLinks};
 

@@ -1,3 +1,5 @@
+//! Marks on contexts, a row of types for each user and role.
+
 ghost use Rattle.std.specs.Prelude.{◌≡◌, ℕ, ◌+◌, ◌*◌, ◌<◌, ◌≤◌, ◌&&◌, ◌||◌, ◌==◌, false, length, IfOk};
 ghost use Rattle.policy_versions.specs.Numbers.{is_marked};
 ghost use Rattle.policy_versions.specs.Steps.{StayMarked};

@@ -1,3 +1,5 @@
+//! Names of types and their places.
+
 ghost use Rattle.std.specs.Prelude.{◌≡◌, ◌<◌, true};
 ghost use Rattle.policy_model.specs.Declarations.{is_kind};
 ghost use Rattle.policy_versions.specs.Places.{name_at, kind_at};

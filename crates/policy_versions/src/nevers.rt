@@ -1,3 +1,5 @@
+//! The first `neverallow` line that a version breaks.
+
 ghost use Rattle.std.specs.Prelude.{◌≡◌, ℕ, ◌<◌, ◌≤◌, true, length};
 ghost use Rattle.access_vectors.specs.Table.{perm_count};
 ghost use Rattle.policy_model.specs.declared.policy.PolicyParts.{PolicyParts};

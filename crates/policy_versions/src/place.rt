@@ -1,3 +1,5 @@
+//! A context by two numbers.
+
 use crate::kind::Kind;
 
 /// A context by numbers: the row of its user and role, and its type.

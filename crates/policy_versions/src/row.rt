@@ -1,3 +1,5 @@
+//! The cells of one source type in a table.
+
 ghost use Rattle.std.specs.Prelude.{◌≡◌, ℕ, ◌<◌, ◌==◌, true, false, slice_index, bit_and};
 ghost use Rattle.policy_versions.specs.Sets.{has_place};
 ghost use Rattle.policy_versions.specs.Changes.{changed_if};

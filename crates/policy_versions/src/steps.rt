@@ -1,3 +1,5 @@
+//! The steps from a context to those of the objects that its subject makes or is led to.
+
 ghost use Rattle.std.specs.Prelude.{◌≡◌, ℕ, ◌<◌, false, true, length, Some, IfOk, if◌then◌else◌};
 ghost use Rattle.policy_model.specs.declared.policy.Labelling.TheVariants as labelling;
 ghost use Rattle.policy_model.specs.Deciding as decide;

@@ -1,3 +1,5 @@
+//! The tables of all versions and classes, which share the rows that a version leaves as they were.
+
 ghost use Rattle.std.specs.Prelude.{◌≡◌, ℕ, ◌+◌, ◌<◌, ◌≤◌, length, slice_get, slice_index, IfOk, OnOk, IsTrue, MatchOption};
 ghost use Rattle.policy_model.specs.declared.policy.PolicyParts.{PolicyParts};
 ghost use Rattle.policy_versions.specs.Kinds.{AreKindsOf};

@@ -1,3 +1,5 @@
+//! The permissions that each version gives a source type on a target type.
+
 ghost use Rattle.std.specs.Prelude.{◌≡◌, ℕ, ◌<◌, true, false, bit_and, IfOk};
 ghost use Rattle.policy_versions.specs.Sets.{has_place};
 ghost use Rattle.policy_versions.specs.Kinds.{AreKindsOf};

@@ -1,3 +1,5 @@
+//! What the managers of a session are opened with.
+
 use file_calls::FileOpening;
 use port_calls::PortOpening;
 use process_calls::ProcessOpening;

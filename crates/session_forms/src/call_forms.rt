@@ -1,3 +1,5 @@
+//! What a client's call says by itself: its words, their number and their ranges.
+
 ghost use Rattle.std.specs.Prelude.{◌≡◌};
 ghost use Rattle.session_forms.specs.CallForms;
 

@@ -1,3 +1,5 @@
+//! What a line that runs says by itself.
+
 ghost use Rattle.std.specs.Prelude.{◌≡◌};
 ghost use Rattle.session_forms.specs.RunForms;
 

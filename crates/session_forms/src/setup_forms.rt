@@ -1,3 +1,5 @@
+//! What a line before the run says by itself: files, ports, clients and what stands beside them.
+
 ghost use Rattle.std.specs.Prelude.{◌≡◌};
 ghost use Rattle.session_forms.specs.SetupForms;
 

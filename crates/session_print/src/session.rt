@@ -1,3 +1,5 @@
+//! A session printed as a text: its policy, its lines before the run, and the lines that run.
+
 ghost use Rattle.std.specs.Prelude.{◌≡◌, ◌++◌, ◌≤◌, OnOk, IfOk, length};
 ghost use Rattle.text_lines.specs.Lines.{lines_of, line_limit};
 ghost use Rattle.text_print.specs.Printed.{text_of};

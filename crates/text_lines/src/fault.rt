@@ -1,3 +1,5 @@
+//! Why a text is refused: its first faulty line and the kind of fault.
+
 ghost use Rattle.std.specs.Prelude.{◌≡◌};
 ghost use Rattle.text_lines.specs.declared.fault.Refusal.TheVariants as refusal;
 

@@ -1,3 +1,5 @@
+//! A line of a text, and where it ends.
+
 ghost use Rattle.std.specs.Prelude.{◌≡◌, ◌≤◌, [], ◌∷◌, MatchOption, OnOk};
 ghost use Rattle.std.specs.List.{list_all, position};
 ghost use Rattle.text_lines.specs.Lines;

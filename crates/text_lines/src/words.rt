@@ -1,3 +1,5 @@
+//! The words of a line.
+
 ghost use Rattle.std.specs.Prelude.{◌≡◌, [], ◌∷◌, MatchOption, true};
 ghost use Rattle.std.specs.List.{position};
 ghost use Rattle.text_lines.specs.Lines.{begins_word, is_gap, is_word_byte, words_of};
