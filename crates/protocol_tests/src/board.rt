@@ -124,18 +124,18 @@ impl<'d> Day<'d> {
     }
 
     /// Begins a change to a version.
-    fn notice(&mut self, alloc: Global, version: u8) -> Result<u32, NotifyFault> {
-        self.board.notice(alloc, version)
+    fn notify(&mut self, alloc: Global, version: u8) -> Result<u32, NotifyFault> {
+        self.board.notify(alloc, version)
     }
 
     /// Updates some stale slots, and answers how many are left.
-    fn revise(&mut self, k: u64) -> u64 {
-        self.board.revise(k)
+    fn update(&mut self, k: u64) -> u64 {
+        self.board.update(k)
     }
 
     /// Tries to acknowledge.
-    fn settle(&mut self) -> Ack {
-        self.board.settle()
+    fn acknowledge(&mut self) -> Ack {
+        self.board.acknowledge()
     }
 }
 
@@ -158,13 +158,13 @@ fn morning(day: &mut Day<'_>, alloc: Global) -> [Option<BoardReply>; 3] {
 /// given back, nor before the slot follows the new version.
 fn change(day: &mut Day<'_>, alloc: Global) -> (Option<BoardReply>, [Ack; 3], u64) {
     day.begin();
-    let _number = day.notice(alloc, 1);
+    let _number = day.notify(alloc, 1);
     let held = day.act(alloc, BoardCall::Read { slot: 0 });
-    let busy = day.settle();
+    let busy = day.acknowledge();
     day.end();
-    let behind = day.settle();
-    let left = day.revise(5);
-    let done = day.settle();
+    let behind = day.acknowledge();
+    let left = day.update(5);
+    let done = day.acknowledge();
     (held, [busy, behind, done], left)
 }
 
