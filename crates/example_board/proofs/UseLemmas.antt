@@ -1,5 +1,5 @@
 -- What a look-up of a slot in the grants tells.
-use Rattle.std.proofs.Common.{◌≡◌, ℕ, ◌<◌, Option, None, Some, sym, ap, ◌∙◌}
+use Rattle.std.proofs.Common.{ℕ, ◌<◌, Option, None, Some, sym, ap, ◌∙◌}
 use Rattle.std.specs.Prelude.{option_map, slice_index, MatchOption}
 use Rattle.access_vectors.specs.Decisions.{Decisions}
 use Rattle.access_vectors.specs.Phases.{version_at}

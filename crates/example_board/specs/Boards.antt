@@ -1,5 +1,5 @@
 -- How the board and its rights show the plain board's state: a used slot holds a grant.
-use Rattle.std.specs.Prelude.{◌≡◌, ℕ, ◌/◌, List, Some, None, Result, Ok, Err, slice_index, IsTrue, bit_and, refl}
+use Rattle.std.specs.Prelude.{◌≡◌, ℕ, ◌/◌, Some, None, slice_index, IsTrue, bit_and, refl}
 use Rattle.std.specs.Ordering.{nat_cmp}
 use Rattle.std.specs.FinMap as maps
 use Rattle.std.specs.FinMap.{FinMap}
@@ -8,17 +8,14 @@ use Rattle.access_vectors.specs.Decisions.{Decisions}
 use Rattle.access_vectors.specs.Mapped.{mapped}
 use Rattle.access_vectors.specs.Phases.{version_at, MayName}
 use Rattle.access_vectors.specs.Stale.{Follows, slot_place}
-use Rattle.access_vectors.specs.declared.asked.Asked.{Asked}
 use Rattle.access_vectors.specs.declared.class.Class.TheVariants.{File}
-use Rattle.flask_sid.specs.declared.memory.Memory.{Memory}
 use Rattle.retained_rights.specs.Claims.{Claim, Claims, claims_of, AreInStep}
 use Rattle.retained_rights.specs.Rights.{Rights, Fit, follows_of, rights_code}
 use Rattle.retained_rights.specs.declared.grant.Usable.{Usable}
 use Rattle.retained_rights.specs.declared.rule.Rule.TheVariants.{Each}
-use Rattle.example_board.specs.Plain.{BoardState, BoardAnswer, IsOpening, sid_of}
+use Rattle.example_board.specs.Plain.{BoardState, IsOpening, sid_of}
 use Rattle.example_board.specs.contracts.opening.BoardOpening as opening_type
 use Rattle.example_board.specs.declared.opening.BoardOpening.{BoardOpening}
-use Rattle.example_board.specs.declared.call.BoardReply.{BoardReply}
 
 -- what contracts see of the board: what it was opened with, the number on it, and the rights
 pub record Shown : Type 0 where
@@ -80,17 +77,3 @@ pub record IsUse (d : Decisions) (shown : Shown) (client slot : ℕ) (usable : U
 pub record IsFree (shown : Shown) (client slot : ℕ) : Type 0 where
   pub held : maps.get (state_of shown).slots (slot_place client slot) ≡ None
   pub following : maps.get (follows shown) (slot_place client slot) ≡ None
-
--- a served call replies, changes the state and asks as the plain answer says, with two equal replies; want of memory
--- leaves all as it was
-abbrev pub Serves : Result (BoardReply × BoardReply) Memory → Shown → Shown → List Asked → BoardAnswer → Type 0
-Serves (Ok replies) old new asked answer =
-    (replies.0 ≡ answer.reply) × (replies.1 ≡ answer.reply) × (state_of new ≡ answer.state) × (asked ≡ answer.asked)
-Serves (Err memory) old new asked answer = new ≡ old
-
--- a call that changes nothing replies and asks as the plain answer says, with two equal replies, and the plain answer
--- leaves the state as it is
-abbrev pub Says : Result (BoardReply × BoardReply) Memory → BoardState → List Asked → BoardAnswer → Type 0
-Says (Ok replies) state asked answer =
-    (replies.0 ≡ answer.reply) × (replies.1 ≡ answer.reply) × (state ≡ answer.state) × (asked ≡ answer.asked)
-Says (Err memory) state asked answer = Unit {0}

@@ -2,3 +2,4 @@ pub mod Plain
 pub mod Honest
 pub mod Boards
 pub mod Laws
+pub mod Serving

@@ -7,10 +7,9 @@ use Rattle.access_vectors.specs.Table.{Permission}
 use Rattle.access_vectors.specs.Perms.{file_read, file_write}
 use Rattle.access_vectors.specs.Vectors.{has}
 use Rattle.access_vectors.specs.Decisions.{Decisions}
-use Rattle.access_vectors.specs.Asking.{question}
 use Rattle.access_vectors.specs.Stale.{Follows, Pair, slot_place}
 use Rattle.manager_history.specs.Answers.{Answer, Denial}
-use Rattle.mode_questions.specs.Answering.{saying, asking, asking_mode, after_asking}
+use Rattle.mode_questions.specs.Requests.{Request, saying, asking, asking_mode, after_asking}
 use Rattle.example_board.specs.declared.opening.BoardOpening.{BoardOpening}
 use Rattle.example_board.specs.declared.call.BoardCall.{BoardCall}
 use Rattle.example_board.specs.declared.call.BoardCall.TheVariants as call
@@ -53,30 +52,28 @@ abbrev pub mode_perms : List Permission
 mode_perms = file_read ∷ file_write ∷ []
 
 -- opening into what a place holds: SlotUsed; each permission of the mode; the slot has the mode
-abbrev pub opened_into : Decisions → BoardState → ℕ → ℕ → ℕ → ℕ → ℕ → Option ℕ → BoardAnswer
-opened_into d state s number version place mode (Some held) = saying state reply.SlotUsed
-opened_into d state s number version place mode None =
-    after_asking reply.Denied state number (asking_mode d version s state.opening.label mode mode_perms)
+abbrev pub opened_into : Request → BoardState → ℕ → ℕ → Option ℕ → BoardAnswer
+opened_into r state place mode (Some held) = saying state reply.SlotUsed
+opened_into r state place mode None =
+    after_asking reply.Denied r state (asking_mode r state.opening.label mode mode_perms)
     (saying (with_slots state (maps.insert state.slots place mode)) reply.Done)
 
-abbrev pub open_row : Decisions → BoardState → ℕ → ℕ → ℕ → ℕ → ℕ → BoardAnswer
-open_row d state s number version place mode = opened_into d state s number version place mode (maps.get state.slots place)
+abbrev pub open_row : Request → BoardState → ℕ → ℕ → BoardAnswer
+open_row r state place mode = opened_into r state place mode (maps.get state.slots place)
 
 -- a use of what a place holds: BadSlot; BadMode where the mode lacks the permission; the permission on the board's label
-abbrev pub used : Decisions → BoardState → ℕ → ℕ → ℕ → Permission → Option ℕ → BoardAnswer → BoardAnswer
-used d state s number version perm None rest = saying state reply.BadSlot
-used d state s number version perm (Some mode) rest =
-    if has mode perm.index then asking reply.Denied state number (question d version s state.opening.label perm) rest
-    else saying state reply.BadMode
+abbrev pub used : Request → BoardState → Permission → Option ℕ → BoardAnswer → BoardAnswer
+used r state perm None rest = saying state reply.BadSlot
+used r state perm (Some mode) rest =
+    if has mode perm.index then asking reply.Denied r state state.opening.label perm rest else saying state reply.BadMode
 
 -- read: the number on the board
-abbrev pub read_row : Decisions → BoardState → ℕ → ℕ → ℕ → ℕ → BoardAnswer
-read_row d state s number version place = used d state s number version file_read (maps.get state.slots place) (saying state (reply.Number state.posted))
+abbrev pub read_row : Request → BoardState → ℕ → BoardAnswer
+read_row r state place = used r state file_read (maps.get state.slots place) (saying state (reply.Number state.posted))
 
 -- post: the board says another number
-abbrev pub post_row : Decisions → BoardState → ℕ → ℕ → ℕ → ℕ → ℕ → BoardAnswer
-post_row d state s number version place posted =
-    used d state s number version file_write (maps.get state.slots place) (saying (with_posted state posted) reply.Done)
+abbrev pub post_row : Request → BoardState → ℕ → ℕ → BoardAnswer
+post_row r state place posted = used r state file_write (maps.get state.slots place) (saying (with_posted state posted) reply.Done)
 
 -- closing what a place holds: BadSlot; the slot is free
 abbrev pub closed : BoardState → ℕ → Option ℕ → BoardAnswer
@@ -86,12 +83,21 @@ closed state place (Some mode) = saying (with_slots state (maps.remove state.slo
 abbrev pub close_row : BoardState → ℕ → BoardAnswer
 close_row state place = closed state place (maps.get state.slots place)
 
+-- the plain board's answer to a call of a request
+abbrev pub answered : Request → BoardState → BoardCall → BoardAnswer
+answered r state (call.Open slot mode) = open_row r state (slot_place r.client slot) mode
+answered r state (call.Read slot) = read_row r state (slot_place r.client slot)
+answered r state (call.Post slot posted) = post_row r state (slot_place r.client slot) posted
+answered r state (call.Close slot) = close_row state (slot_place r.client slot)
+
+-- the request of a caller under a policy number and its version
+abbrev pub request_of : Decisions → BoardState → ℕ → ℕ → ℕ → Request
+request_of d state caller number version =
+    record { decisions = d; version = version; client = caller; subject = sid_of state caller; number = number }
+
 -- the plain board's answer to a caller's call under a policy number and its version
 abbrev pub answer : Decisions → BoardState → ℕ → BoardCall → ℕ → ℕ → BoardAnswer
-answer d state caller (call.Open slot mode) number version = open_row d state (sid_of state caller) number version (slot_place caller slot) mode
-answer d state caller (call.Read slot) number version = read_row d state (sid_of state caller) number version (slot_place caller slot)
-answer d state caller (call.Post slot posted) number version = post_row d state (sid_of state caller) number version (slot_place caller slot) posted
-answer d state caller (call.Close slot) number version = close_row state (slot_place caller slot)
+answer d state caller call number version = answered (request_of d state caller number version) state call
 
 -- the denial that a reply is, if it is one
 abbrev pub denial_of : BoardReply → Option Denial
@@ -118,12 +124,16 @@ abbrev pub when_done : BoardReply → Follows → Follows → Follows
 when_done reply.Done changed before = changed
 when_done said changed before = before
 
--- what the slots follow after a call under a number: an open sets its slot to the number, and a slot that is free follows
--- nothing
+-- what the slots follow after a call of a request that got this reply: an open sets its slot to the number, and a slot that is
+-- free follows nothing
+abbrev pub followed_by : Request → BoardCall → BoardReply → Follows → Follows
+followed_by r (call.Open slot mode) said follows = when_done said (maps.insert follows (slot_place r.client slot) r.number) follows
+followed_by r (call.Close slot) said follows = when_done said (maps.remove follows (slot_place r.client slot)) follows
+followed_by r other said follows = follows
+
+-- the same after a caller's call, which is done under a number and its version
 abbrev pub followed : Decisions → BoardState → ℕ → BoardCall → ℕ → ℕ → BoardReply → Follows → Follows
-followed d state caller (call.Open slot mode) number version said follows = when_done said (maps.insert follows (slot_place caller slot) number) follows
-followed d state caller (call.Close slot) number version said follows = when_done said (maps.remove follows (slot_place caller slot)) follows
-followed d state caller other number version said follows = follows
+followed d state caller call number version said follows = followed_by (request_of d state caller number version) call said follows
 
 -- a slot's number
 abbrev pub IsSlot : ℕ → Type 0

@@ -11,7 +11,7 @@ ghost use Rattle.retained_rights.specs.declared.rule.Rule.{Rule};
 ghost use Rattle.example_board.specs.Plain.{IsOpening, opened_with, sid_of, with_slots, with_posted};
 ghost use Rattle.example_board.specs.Boards.{Safe, IsUse, IsFree, state_of, follows};
 
-use crate::opening::BoardOpening;
+use crate::opening::{BoardOpening, OPENING_NUMBER};
 use access_vectors::{Asker, Class, Vector};
 use flask_sid::{Memory, Sid};
 use retained_rights::{Callback, Grants, Rule, Usable};
@@ -56,7 +56,7 @@ impl<F: Callback> Board<F> {
     {
         Board {
             opening,
-            posted: 0,
+            posted: OPENING_NUMBER,
             grants: Grants::new(alloc, Rule::Each, Class::File, callback),
         }
     }

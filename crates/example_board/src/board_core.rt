@@ -1,3 +1,5 @@
+//! The board as a core of histories.
+
 ghost use Rattle.std.specs.Prelude.{◌≡◌, ◌<◌, []};
 ghost use Rattle.std.specs.FinMap as maps;
 ghost use Rattle.access_vectors.specs.Decisions.{Decisions};
@@ -10,10 +12,11 @@ ghost use Rattle.example_board.specs.Boards.{Safe, state_of, follows};
 use crate::board::Board;
 use crate::call::{BoardCall, BoardReply};
 use crate::opening::BoardOpening;
-use crate::rows::{close, open, post, read};
+use crate::rows::serve;
 use access_vectors::{Asker, Decider, Questions, Steps};
 use flask_sid::Memory;
 use manager_history::Core;
+use mode_questions::{Caller, Operation};
 use retained_rights::Callback;
 use std::alloc::Global;
 use std::marker::Model;
@@ -94,25 +97,22 @@ impl<F: Callback> Core for BoardCore<F> {
 
     fn call<A: Asker>(
         &mut self,
-        _alloc: Global,
+        alloc: Global,
         caller: u8,
         call: &BoardCall,
         number: u32,
         asker: &mut A,
         asked: &mut Questions,
     ) -> Result<(BoardReply, BoardReply), Memory> {
-        let board = &mut self.board;
-        match call {
-            BoardCall::Open { slot, mode } => {
-                open(board, caller, *slot, *mode, number, asker, asked)
-            }
-            BoardCall::Read { slot } => read(board, caller, *slot, number, asker, asked),
-            BoardCall::Post {
-                slot,
-                number: posted,
-            } => post(board, caller, *slot, *posted, number, asker, asked),
-            BoardCall::Close { slot } => Ok(close(board, caller, *slot)),
-        }
+        let caller = Caller::new(alloc, caller, self.board.sid(caller), number, asker);
+        let mut operation = Operation::new(&caller, asker, asked);
+        let served = serve(&mut self.board, &mut operation, call);
+        let Operation {
+            caller: _,
+            asker: _,
+            asked: _,
+        } = operation;
+        Ok(served?.pair())
     }
 
     fn start<D: Decider>(

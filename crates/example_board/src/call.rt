@@ -1,3 +1,5 @@
+//! What the board is asked, and what it answers.
+
 use access_vectors::{Perm, Vector};
 
 /// A call of the board. Slots are 0 to 63, each client's own.

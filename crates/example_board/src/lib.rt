@@ -9,8 +9,9 @@ mod board;
 mod board_core;
 mod call;
 mod opening;
+mod replies;
 mod rows;
-mod uses;
+mod slots;
 
 pub use board_core::{BoardCore, new};
 pub use call::{BoardCall, BoardReply};

@@ -1,3 +1,5 @@
+//! What a board is opened with.
+
 use flask_sid::{Rows, Sid};
 
 /// What a board is opened with. It says 0 then, and every slot is free.
@@ -8,3 +10,6 @@ pub struct BoardOpening {
     /// The board's label.
     pub label: Sid,
 }
+
+/// The number on a board that was opened just now.
+pub const OPENING_NUMBER: u32 = 0;

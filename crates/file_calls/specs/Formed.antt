@@ -41,9 +41,13 @@ IsOffset offset = offset ≤ 65536
 abbrev pub IsReadLength : ℕ → Type 0
 IsReadLength most = (0 < most) × (most ≤ 1024)
 
--- what is written or added: 1 to 1,024 bytes
+-- a byte of data: one that words are made of
+abbrev pub is_data_byte : ℕ → Bool
+is_data_byte b = nat_le 33 b && nat_le b 126
+
+-- what is written or added: 1 to 1,024 such bytes
 abbrev pub IsData : List ℕ → Type 0
-IsData piece = (0 < length piece) × (length piece ≤ 1024)
+IsData piece = (0 < length piece) × (length piece ≤ 1024) × AllPass is_data_byte piece
 
 -- how many names are left out
 abbrev pub IsSkip : ℕ → Type 0

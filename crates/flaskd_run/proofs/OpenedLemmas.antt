@@ -1,5 +1,5 @@
 -- A run from its openings on.
-use Rattle.std.proofs.Common.{◌≡◌, ◌+◌, ◌<◌, ℕ, Bool, List, [], ◌++◌, length, Option, IsTrue, refl}
+use Rattle.std.proofs.Common.{◌≡◌, ◌+◌, ◌<◌, ℕ, Bool, true, List, [], ◌++◌, length, Option, IsTrue, refl}
 use Rattle.std.specs.Prelude.{◌^◌, replicate}
 use Rattle.flask_sid.specs.declared.context.ContextOf.{ContextOf}
 use Rattle.access_vectors.specs.Decisions.{Decisions}
@@ -11,7 +11,7 @@ use Rattle.session_text.specs.declared.session.ClientLine.{ClientLine}
 use Rattle.session_text.specs.declared.session.RunLine.{RunLine}
 use Rattle.session_text.specs.declared.session.SessionParts.{SessionParts}
 use Rattle.session_desk.specs.Days.{Day, morning_of}
-use Rattle.session_desk.specs.Desks.{Standing, none_asked}
+use Rattle.session_desk.specs.Desks.{Standing, none_asked, no_events}
 use Rattle.session_desk.specs.declared.opening.Openings.{Openings}
 use Rattle.flaskd_run.specs.Serial.{openings_of, lines_text, lines_audit, day_below, summary_of, run_text, text_on, summary_on}
 use Rattle.flaskd_run.specs.Underway.{MayRun, logged_text}
@@ -28,13 +28,13 @@ run_parts d audited policy contexts clients items start day count old new old_is
 
 -- what a run prints on the desk that it opens
 pub opened_text : {Decider : Type 0} (decides : Decider → Decisions) (decider : Decider) (openings : Openings) (desk : Standing Decider) (audited : Bool) (policy : PolicyParts) (contexts : List (ContextOf (List ℕ))) (clients : List ClientLine) (items : List RunLine)
-    → desk ≡ record { day = morning_of openings; decider = decider; asked = none_asked }
+    → desk ≡ record { day = morning_of openings; decider = decider; asked = none_asked; events = no_events; whole = true }
     → run_text audited policy contexts (decides desk.decider) clients desk.day items ≡ run_text audited policy contexts (decides decider) clients (morning_of openings) items
 opened_text decides decider openings desk audited policy contexts clients items desk_is = rw desk_is refl
 
 -- the summary of lines on the desk that it opens
 pub opened_sum : {Decider : Type 0} (decides : Decider → Decisions) (decider : Decider) (openings : Openings) (desk : Standing Decider) (items : List RunLine)
-    → desk ≡ record { day = morning_of openings; decider = decider; asked = none_asked }
+    → desk ≡ record { day = morning_of openings; decider = decider; asked = none_asked; events = no_events; whole = true }
     → summary_of (day_below (decides desk.decider) desk.day items) ≡ summary_of (day_below (decides decider) (morning_of openings) items)
 opened_sum decides decider openings desk items desk_is = rw desk_is refl
 

@@ -34,8 +34,8 @@ use Rattle.session_text.specs.declared.session.SessionParts.{SessionParts}
 use Rattle.session_text.specs.declared.session.Run.{Run}
 use Rattle.session_text.specs.declared.session.Run.TheVariants as run
 use Rattle.session_text.specs.declared.session.RunLine.{RunLine}
-use Rattle.session_desk.specs.Days.{Day, morning_of, refusal_of, day_notified, counted_change, is_complete, is_changing, file_ack, process_ack, port_ack}
-use Rattle.session_desk.specs.Desks.{AreOpenings, HasClients, IsInStep, IsSameOpening}
+use Rattle.session_desk.specs.Days.{Day, morning_of, refusal_of, day_notified, counted_change, is_complete, ack_all_of}
+use Rattle.session_desk.specs.Desks.{AreOpenings, HasClients, IsSameOpening}
 use Rattle.session_desk.specs.declared.opening.Openings.{Openings}
 use Rattle.flaskd_run.specs.Serial.{day_after, day_below, line_text, lines_text, morning, openings_of}
 use Rattle.flaskd_run.specs.Underway.{MayRun, IsLeft}
@@ -127,59 +127,7 @@ changes_after d day (run.Notify version) = noticed_changes (refusal_of d day ver
     noticed_changes None = omega arith
     noticed_changes (Some fault) = omega arith
 changes_after d day (run.Update most) = omega arith
-changes_after d day run.Ack = change_counted (is_complete (is_changing day) (file_ack d day) (process_ack d day) (port_ack d day)) day.changes
-
--- an acknowledgement leaves the newest number
-number_settled : {State : Type 0} (post : Post State) (done : Bool) → number_of (settled_if post done).phase ≡ number_of post.phase
-number_settled post false = refl
-number_settled post true = of_phase post.phase
-  where
-    of_phase : (phase : Phase) → number_of (acknowledged phase) ≡ number_of phase
-    of_phase (Settled settled version) = refl
-    of_phase (Pending pending old new) = refl
-
--- a notice that finds no change pending makes the next number the newest
-number_noticed : (phase : Phase) (version : ℕ) → is_pending phase ≡ false → number_of (noticed phase (number_of phase + 1) version) ≡ number_of phase + 1
-number_noticed (Settled settled old) version idle = refl
-number_noticed (Pending pending old new) version idle = cc
-
--- where nothing speaks against a version, no change is pending
-none_pending : (files processes ports : Bool) (number : ℕ) (other : Option NotifyFault)
-    → (if files || processes || ports then Some (faults.Pending number) else other) ≡ None → (files ≡ false) × ((processes ≡ false) × (ports ≡ false))
-none_pending true processes ports number other is = cc
-none_pending false true ports number other is = cc
-none_pending false false true number other is = cc
-none_pending false false false number other is = (refl, (refl, refl))
-
--- the managers' newest numbers stay the same as each other
-pub in_step_after : (d : Decisions) (day : Day) (asks : Run) → IsInStep day → IsInStep (day_after d day asks)
-in_step_after d day (run.File client call) is = record { processes = is.processes; ports = is.ports }
-in_step_after d day (run.Process client call) is = record { processes = is.processes; ports = is.ports }
-in_step_after d day (run.Port client call) is = record { processes = is.processes; ports = is.ports }
-in_step_after d day (run.Begin client manager.File) is = record { processes = is.processes; ports = is.ports }
-in_step_after d day (run.Begin client manager.Process) is = record { processes = is.processes; ports = is.ports }
-in_step_after d day (run.Begin client manager.Port) is = record { processes = is.processes; ports = is.ports }
-in_step_after d day (run.End client manager.File) is = record { processes = is.processes; ports = is.ports }
-in_step_after d day (run.End client manager.Process) is = record { processes = is.processes; ports = is.ports }
-in_step_after d day (run.End client manager.Port) is = record { processes = is.processes; ports = is.ports }
-in_step_after d day (run.Notify version) is = noticed_in_step (refusal_of d day version) refl
-  where
-    noticed_in_step : (refusal : Option NotifyFault) → refusal_of d day version ≡ refusal → IsInStep (day_notified day version refusal)
-    noticed_in_step (Some fault) given = is
-    noticed_in_step None given =
-        let idle = none_pending (is_pending day.files.phase) (is_pending day.processes.phase) (is_pending day.ports.phase) (number_of day.files.phase) _ given in
-        let files = number_noticed day.files.phase version idle.0 in
-        record {
-          processes = number_noticed day.processes.phase version idle.1.0 ∙ ap (λ n. n + 1) is.processes ∙ sym files;
-          ports = number_noticed day.ports.phase version idle.1.1 ∙ ap (λ n. n + 1) is.ports ∙ sym files;
-        }
-in_step_after d day (run.Update most) is = record { processes = is.processes; ports = is.ports }
-in_step_after d day run.Ack is =
-    let files = number_settled day.files (is_done (file_ack d day)) in
-    record {
-      processes = number_settled day.processes (is_done (process_ack d day)) ∙ is.processes ∙ sym files;
-      ports = number_settled day.ports (is_done (port_ack d day)) ∙ is.ports ∙ sym files;
-    }
+changes_after d day run.Ack = change_counted (is_complete (ack_all_of d day)) day.changes
 
 -- the managers have as many clients as before
 pub clients_after : (count : ℕ) (old new : Day) → HasClients count old → IsSameOpening old new → HasClients count new
@@ -289,7 +237,6 @@ pub session_may : (session : SessionParts) (d : Decisions) → IsSession session
 session_may session d is few known = record {
   formed = runs_known (IsSidOf session.policy.contexts) (λ sid. IsTrue (d.known sid)) (length session.clients) session.lines known (lines_run session is);
   clients_are = opened_clients session;
-  in_step = record { processes = refl; ports = refl };
   calls = omega (arith, few);
   changes = omega (arith, few);
 }
@@ -308,7 +255,6 @@ left_more d d' clients start day day' all items rest line left is same day_is op
       may = record {
         formed = all_behind (λ (line : RunLine). IsRun (λ sid. IsTrue (d.known sid)) clients line.run) items rest line is left.may.formed;
         clients_are = clients_after clients day day' left.may.clients_are opening;
-        in_step = rw (← after) at (in_step_after d day line.run left.may.in_step);
         calls = omega (arith, left.may.calls, count, rw (← after) at (calls_after d day line.run));
         changes = omega (arith, left.may.changes, count, rw (← after) at (changes_after d day line.run));
       };

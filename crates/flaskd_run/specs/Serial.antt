@@ -1,5 +1,5 @@
 -- What `serial` prints: the lines in the text's order, run on the plain managers.
-use Rattle.std.specs.Prelude.{ℕ, ◌+◌, Bool, true, false, List, [], ◌∷◌, ◌++◌, length, drop, slice_get, map, Option, Some, None, codes}
+use Rattle.std.specs.Prelude.{ℕ, ◌+◌, Bool, true, false, List, [], ◌∷◌, ◌++◌, slice_get, map, Option, Some, None, Result, Ok, Err, codes}
 use Rattle.std.specs.List.{flat_map}
 use Rattle.flask_sid.specs.declared.context.ContextOf.{ContextOf}
 use Rattle.access_vectors.specs.Decisions.{Decisions}
@@ -9,9 +9,10 @@ use Rattle.audit_log.specs.Audited.{lines_asked}
 use Rattle.audit_log.specs.Logs.{lines_by}
 use Rattle.audit_log.specs.Texts.{line_text as audit_line_text}
 use Rattle.audit_log.specs.declared.audited.AuditLine.{AuditLine}
+use Rattle.flaskd_run.specs.declared.answers.LineAnswer.{LineAnswer}
+use Rattle.flaskd_run.specs.declared.answers.LineAnswer.TheVariants as answer
 use Rattle.flaskd_run.specs.declared.lines.Caller.{Caller}
 use Rattle.policy_model.specs.declared.policy.PolicyParts.{PolicyParts}
-use Rattle.managed.specs.Posts.{acting_number}
 use Rattle.session_text.specs.declared.session.ClientLine.{ClientLine}
 use Rattle.session_text.specs.declared.session.Run.{Run}
 use Rattle.session_text.specs.declared.session.Run.TheVariants as run
@@ -19,11 +20,20 @@ use Rattle.session_text.specs.declared.session.RunLine.{RunLine}
 use Rattle.session_text.specs.declared.session.SessionParts.{SessionParts}
 use Rattle.session_forms.specs.declared.run_forms.Manager.{Manager}
 use Rattle.session_forms.specs.declared.run_forms.Manager.TheVariants as manager
-use Rattle.session_desk.specs.Days.{Day, morning_of, file_answer, process_answer, port_answer, file_called, process_called, port_called, file_begun, process_begun, port_begun, file_ended, process_ended, port_ended, is_changing, refusal_of, day_notified, stale_files, stale_processes, stale_ports, day_updated, file_ack, process_ack, port_ack, day_acknowledged}
+use Rattle.access_vectors.specs.declared.change.NotifyFault.{NotifyFault}
+use Rattle.change_protocol.specs.Changes.{for_all}
+use Rattle.change_protocol.specs.declared.answers.NotifyAllFault.{NotifyAllFault}
+use Rattle.session_desk.specs.Days as days
+use Rattle.session_desk.specs.Days.{Day, morning_of, acting_on, day_begun, day_ended, refusal_of, day_notified, day_updated, left_on, ack_all_of, all_said, day_acknowledged}
+use Rattle.session_desk.specs.Desks.{LastAsked}
+use Rattle.session_desk.specs.One as one
+use Rattle.session_desk.specs.One.{Told}
+use Rattle.session_desk.specs.declared.acting.Call.{Call}
+use Rattle.session_desk.specs.declared.acting.Call.TheVariants as call
+use Rattle.session_desk.specs.declared.acting.Reply.{Reply}
+use Rattle.session_desk.specs.declared.acting.Reply.TheVariants as reply
 use Rattle.session_desk.specs.declared.opening.Openings.{Openings}
-use Rattle.session_desk.specs.declared.changes.Acks.{Acks}
-use Rattle.session_desk.specs.declared.changes.Left.{Left}
-use Rattle.flaskd_run.specs.Texts.{reply_text, process_reply_text, port_reply_text, client_text, admin_text, notice_text, updated_text, ack_text, summary_text}
+use Rattle.flaskd_run.specs.Texts.{any_reply_text, client_text, admin_text, notice_text, updated_text, ack_text, summary_text}
 
 -- what the managers are opened with: a client acts as its context, and the root and ports without a line have theirs
 abbrev pub openings_of : SessionParts → Openings
@@ -45,65 +55,69 @@ name_of clients client = name_in (slice_get clients client)
     name_in None = []
     name_in (Some line) = line.name
 
--- after a client took a pass of a manager, and after it gave its pass back
-abbrev pub day_begun : Day → ℕ → Manager → Day
-day_begun day client manager.File = file_begun day client
-day_begun day client manager.Process = process_begun day client
-day_begun day client manager.Port = port_begun day client
+-- the manager that a reply is from, and that a call is of
+abbrev pub manager_of : Reply → Manager
+manager_of (reply.File got) = manager.File
+manager_of (reply.Process got) = manager.Process
+manager_of (reply.Port got) = manager.Port
 
-abbrev pub day_ended : Day → ℕ → Manager → Day
-day_ended day client manager.File = file_ended day client
-day_ended day client manager.Process = process_ended day client
-day_ended day client manager.Port = port_ended day client
+abbrev pub call_manager : Call → Manager
+call_manager asks = days.manager_of asks
 
--- the policy number under which a client acts on a manager
-abbrev pub acting_on : Day → ℕ → Manager → ℕ
-acting_on day client manager.File = acting_number day.files client
-acting_on day client manager.Process = acting_number day.processes client
-acting_on day client manager.Port = acting_number day.ports client
+-- a client's call is well formed where its manager stands
+abbrev pub MayCall : Decisions → Day → ℕ → Call → Type 0
+MayCall d day client asks = one.MayCall d (days.place_in day (days.manager_of asks)) client asks
+
+-- what a client's call gets
+abbrev pub told_to : Decisions → Day → ℕ → Call → Told
+told_to d day client asks = days.told_to d day client asks
+
+abbrev pub replied : Decisions → Day → ℕ → Call → LineAnswer
+replied d day client asks = answer.Replied client (acting_on day client (days.manager_of asks)) (days.told_to d day client asks).reply
+
+-- after a client's call
+abbrev pub day_called : Decisions → Day → ℕ → Call → Day
+day_called d day client asks = days.day_called d day client asks
 
 -- after a line
 abbrev pub day_after : Decisions → Day → Run → Day
-day_after d day (run.File client call) = file_called d day client call (file_answer d day client call)
-day_after d day (run.Process client call) = process_called d day client call (process_answer d day client call)
-day_after d day (run.Port client call) = port_called d day client call (port_answer d day client call)
+day_after d day (run.File client asks) = day_called d day client (call.File asks)
+day_after d day (run.Process client asks) = day_called d day client (call.Process asks)
+day_after d day (run.Port client asks) = day_called d day client (call.Port asks)
 day_after d day (run.Begin client of) = day_begun day client of
 day_after d day (run.End client of) = day_ended day client of
 day_after d day (run.Notify version) = day_notified day version (refusal_of d day version)
 day_after d day (run.Update most) = day_updated d day most
 day_after d day run.Ack = day_acknowledged d day
 
--- how many slots an update leaves stale
-abbrev pub left_on : Decisions → Day → ℕ → Left
-left_on d day most = record {
-  files = length (drop most (stale_files d day));
-  processes = length (drop most (stale_processes d day));
-  ports = length (drop most (stale_ports d day));
-}
+-- what the choice of a version gets: its number, or why it is refused
+abbrev pub notice_answer : Option NotifyFault → ℕ → Result ℕ NotifyAllFault
+notice_answer None next = Ok next
+notice_answer (Some fault) next = Err (for_all fault)
 
--- how an acknowledgement goes
-abbrev pub acks_on : Decisions → Day → Acks
-acks_on d day = record {
-  changing = is_changing day;
-  number = number_of day.files.phase;
-  files = file_ack d day;
-  processes = process_ack d day;
-  ports = port_ack d day;
-}
+-- what a line comes to
+abbrev pub answer_on : Decisions → Day → Run → LineAnswer
+answer_on d day (run.File client asks) = replied d day client (call.File asks)
+answer_on d day (run.Process client asks) = replied d day client (call.Process asks)
+answer_on d day (run.Port client asks) = replied d day client (call.Port asks)
+answer_on d day (run.Begin client of) = answer.Begun client of (acting_on day client of)
+answer_on d day (run.End client of) = answer.Ended client of (acting_on day client of)
+answer_on d day (run.Notify version) = answer.Notified (notice_answer (refusal_of d day version) (number_of day.files.phase + 1))
+answer_on d day (run.Update most) = answer.Updated (left_on d day most)
+answer_on d day run.Ack = answer.Acknowledged (record { all = ack_all_of d day; said = all_said d day })
 
--- what a line prints, where these contexts have identifiers
+-- what is printed of it, where these contexts have identifiers
+abbrev pub answer_text : List (ContextOf (List ℕ)) → List ClientLine → ℕ → LineAnswer → List ℕ
+answer_text contexts clients n (answer.Replied client number got) = client_text n (name_of clients client) (manager_of got) number (any_reply_text contexts got)
+answer_text contexts clients n (answer.Begun client of number) = client_text n (name_of clients client) of number (codes "begun")
+answer_text contexts clients n (answer.Ended client of number) = client_text n (name_of clients client) of number (codes "ended")
+answer_text contexts clients n (answer.Notified said) = admin_text n (notice_text said)
+answer_text contexts clients n (answer.Updated left) = admin_text n (updated_text left)
+answer_text contexts clients n (answer.Acknowledged got) = admin_text n (ack_text got)
+
+-- what a line prints
 abbrev pub line_text : List (ContextOf (List ℕ)) → Decisions → List ClientLine → Day → ℕ → Run → List ℕ
-line_text contexts d clients day n (run.File client call) =
-    client_text n (name_of clients client) manager.File (acting_number day.files client) (reply_text contexts (file_answer d day client call).reply)
-line_text contexts d clients day n (run.Process client call) =
-    client_text n (name_of clients client) manager.Process (acting_number day.processes client) (process_reply_text contexts (process_answer d day client call).reply)
-line_text contexts d clients day n (run.Port client call) =
-    client_text n (name_of clients client) manager.Port (acting_number day.ports client) (port_reply_text contexts (port_answer d day client call).reply)
-line_text contexts d clients day n (run.Begin client of) = client_text n (name_of clients client) of (acting_on day client of) (codes "begun")
-line_text contexts d clients day n (run.End client of) = client_text n (name_of clients client) of (acting_on day client of) (codes "ended")
-line_text contexts d clients day n (run.Notify version) = admin_text n (notice_text (refusal_of d day version) (number_of day.files.phase + 1))
-line_text contexts d clients day n (run.Update most) = admin_text n (updated_text (left_on d day most))
-line_text contexts d clients day n run.Ack = admin_text n (ack_text (acks_on d day))
+line_text contexts d clients day n asks = answer_text contexts clients n (answer_on d day asks)
 
 -- what lines print, from there on
 abbrev pub lines_text : List (ContextOf (List ℕ)) → Decisions → List ClientLine → Day → List RunLine → List ℕ
@@ -118,16 +132,23 @@ day_below d day (line ∷ lines) = day_below d (day_after d day line.run) lines
 
 -- what the call of a line asks; the other lines ask nothing
 abbrev pub asked_by : Decisions → Day → Run → List Asked
-asked_by d day (run.File client call) = (file_answer d day client call).asked
-asked_by d day (run.Process client call) = (process_answer d day client call).asked
-asked_by d day (run.Port client call) = (port_answer d day client call).asked
+asked_by d day (run.File client asks) = (told_to d day client (call.File asks)).asked
+asked_by d day (run.Process client asks) = (told_to d day client (call.Process asks)).asked
+asked_by d day (run.Port client asks) = (told_to d day client (call.Port asks)).asked
 asked_by d day asks = []
+
+-- what the call of a line asked, by what the newest calls asked; the other lines ask nothing
+abbrev pub asked_in : LastAsked → Run → List Asked
+asked_in asked (run.File client asks) = asked.files
+asked_in asked (run.Process client asks) = asked.processes
+asked_in asked (run.Port client asks) = asked.ports
+asked_in asked asks = []
 
 -- who acts in the call of line n, and on which manager; the other lines are no call
 abbrev pub caller_of : Day → ℕ → Run → Option Caller
-caller_of day n (run.File client call) = Some (record { acting = record { client = client; mark = n; number = acting_number day.files client }; manager = manager.File })
-caller_of day n (run.Process client call) = Some (record { acting = record { client = client; mark = n; number = acting_number day.processes client }; manager = manager.Process })
-caller_of day n (run.Port client call) = Some (record { acting = record { client = client; mark = n; number = acting_number day.ports client }; manager = manager.Port })
+caller_of day n (run.File client asks) = Some (record { acting = record { client = client; mark = n; number = acting_on day client manager.File }; manager = manager.File })
+caller_of day n (run.Process client asks) = Some (record { acting = record { client = client; mark = n; number = acting_on day client manager.Process }; manager = manager.Process })
+caller_of day n (run.Port client asks) = Some (record { acting = record { client = client; mark = n; number = acting_on day client manager.Port }; manager = manager.Port })
 caller_of day n asks = None
 
 -- the audit lines of what a caller asked: they are the caller's, whoever was judged

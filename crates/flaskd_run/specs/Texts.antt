@@ -1,10 +1,6 @@
 -- What a run prints.
-use Rattle.std.specs.Prelude.{ℕ, List, [], ◌∷◌, ◌++◌, length, Option, Some, None, Result, Ok, Err, if◌then◌else◌, codes, decimal}
+use Rattle.std.specs.Prelude.{ℕ, List, [], ◌∷◌, ◌++◌, length, Result, Ok, Err, codes, decimal}
 use Rattle.access_vectors.specs.Table.{Permission, class_word, perm_word}
-use Rattle.manager_history.specs.declared.answers.Ack.{Ack}
-use Rattle.manager_history.specs.declared.answers.Ack.TheVariants as acks
-use Rattle.access_vectors.specs.declared.change.NotifyFault.{NotifyFault}
-use Rattle.access_vectors.specs.declared.change.NotifyFault.TheVariants as faults
 use Rattle.flask_sid.specs.declared.context.ContextOf.{ContextOf}
 use Rattle.policy_versions.specs.Judging.{context_with}
 use Rattle.file_calls.specs.declared.call.FileReply.{FileReply}
@@ -15,9 +11,15 @@ use Rattle.port_calls.specs.declared.call.PortReply.{PortReply}
 use Rattle.port_calls.specs.declared.call.PortReply.TheVariants as port
 use Rattle.session_forms.specs.declared.run_forms.Manager.{Manager}
 use Rattle.session_forms.specs.declared.run_forms.Manager.TheVariants as manager
-use Rattle.session_desk.specs.Days.{is_complete}
+use Rattle.change_protocol.specs.declared.answers.AckAll.{AckAll}
+use Rattle.change_protocol.specs.declared.answers.AckAll.TheVariants as acking
+use Rattle.change_protocol.specs.declared.answers.NotifyAllFault.{NotifyAllFault}
+use Rattle.change_protocol.specs.declared.answers.NotifyAllFault.TheVariants as faults
+use Rattle.change_protocol.specs.declared.answers.Said.{Said}
+use Rattle.change_protocol.specs.declared.answers.Said.TheVariants as saying
+use Rattle.session_desk.specs.declared.acting.Reply.{Reply}
+use Rattle.session_desk.specs.declared.acting.Reply.TheVariants as any
 use Rattle.session_desk.specs.declared.changes.Acks.{Acks}
-use Rattle.session_desk.specs.declared.changes.Left.{Left}
 
 -- a permission with its class
 abbrev pub perm_text : Permission → List ℕ
@@ -97,6 +99,12 @@ port_reply_text contexts port.Full = codes "full"
 port_reply_text contexts port.Empty = codes "empty"
 port_reply_text contexts port.TooBig = codes "toobig"
 
+-- a reply of any of the three managers
+abbrev pub any_reply_text : List (ContextOf (List ℕ)) → Reply → List ℕ
+any_reply_text contexts (any.File got) = reply_text contexts got
+any_reply_text contexts (any.Process got) = process_reply_text contexts got
+any_reply_text contexts (any.Port got) = port_reply_text contexts got
+
 -- the word of a manager
 abbrev pub manager_word : Manager → List ℕ
 manager_word manager.File = codes "file"
@@ -120,38 +128,41 @@ abbrev pub admin_text : ℕ → List ℕ → List ℕ
 admin_text line got = admin_front line ++ got ++ codes "\n"
 
 -- what a notice got: its number, or why it was refused
-abbrev pub notice_text : Option NotifyFault → ℕ → List ℕ
-notice_text None number = codes "notified " ++ decimal number
-notice_text (Some (faults.Pending pending)) number = codes "pending " ++ decimal pending
-notice_text (Some faults.NoVersion) number = codes "noversion"
-notice_text (Some faults.Spent) number = codes "spent"
-notice_text (Some faults.Memory) number = codes "memory"
+abbrev pub notice_text : Result ℕ NotifyAllFault → List ℕ
+notice_text (Ok number) = codes "notified " ++ decimal number
+notice_text (Err (faults.Pending pending)) = codes "pending " ++ decimal pending
+notice_text (Err faults.NoVersion) = codes "noversion"
+notice_text (Err faults.Spent) = codes "spent"
+notice_text (Err (faults.Memory reached)) = codes "memory"
 
--- what a keeper said to a notice
-abbrev pub said_text : Result ℕ NotifyFault → List ℕ
-said_text (Ok number) = notice_text None number
-said_text (Err fault) = notice_text (Some fault) 0
+-- numbers, each behind a space
+abbrev pub numbers_text : List ℕ → List ℕ
+numbers_text [] = []
+numbers_text (number ∷ numbers) = codes " " ++ decimal number ++ numbers_text numbers
 
 -- what an update got: how many slots of each manager are stale yet
-abbrev pub updated_text : Left → List ℕ
-updated_text left = codes "updated " ++ decimal left.files ++ codes " " ++ decimal left.processes ++ codes " " ++ decimal left.ports
+abbrev pub updated_text : List ℕ → List ℕ
+updated_text left = codes "updated" ++ numbers_text left
 
--- what a manager's acknowledgement got: it keeps the change back, or has acknowledged it, just now or before
-abbrev pub item_text : Ack → List ℕ
-item_text (acks.Busy older) = codes "busy:" ++ decimal older
-item_text (acks.Behind left) = codes "behind:" ++ decimal left
+-- what a manager said: it keeps the change back, or has acknowledged it, just now or before
+abbrev pub item_text : Said → List ℕ
+item_text (saying.Busy older) = codes "busy:" ++ decimal older
+item_text (saying.Behind left) = codes "behind:" ++ decimal left
 item_text other = codes "kept"
 
--- and that of each, where some manager keeps the change back
-abbrev pub waiting_text : Acks → List ℕ
-waiting_text got =
-    codes "waiting " ++ item_text got.files ++ codes " " ++ item_text got.processes ++ codes " " ++ item_text got.ports
+-- and what each said, behind a space
+abbrev pub items_text : List Said → List ℕ
+items_text [] = []
+items_text (one ∷ said) = codes " " ++ item_text one ++ items_text said
 
 -- what an acknowledgement got: nothing was pending, the change is complete, or it waits
 abbrev pub ack_text : Acks → List ℕ
-ack_text got =
-    if got.changing then (if is_complete got.changing got.files got.processes got.ports then codes "complete " ++ decimal got.number else waiting_text got)
-    else codes "idle"
+ack_text got = text_of got.all
+  where
+    text_of : AckAll → List ℕ
+    text_of acking.Idle = codes "idle"
+    text_of (acking.Complete number) = codes "complete " ++ decimal number
+    text_of acking.Waiting = codes "waiting" ++ items_text got.said
 
 -- the last line: how many calls, how many of them denied, and how many changes complete
 abbrev pub summary_text : ℕ → ℕ → ℕ → List ℕ

@@ -10,15 +10,14 @@ use Rattle.session_text.specs.Sessions.{IsRun}
 use Rattle.session_text.specs.declared.session.ClientLine.{ClientLine}
 use Rattle.session_text.specs.declared.session.RunLine.{RunLine}
 use Rattle.session_desk.specs.Days.{Day}
-use Rattle.session_desk.specs.Desks.{HasClients, IsInStep}
+use Rattle.session_desk.specs.Desks.{HasClients}
 use Rattle.flaskd_run.specs.Serial.{day_below}
 
--- lines may run from this day on: each names what is known and one of so many clients, the managers are in step, and the counts
+-- lines may run from this day on: each names what is known and one of so many clients, and the counts
 -- have room for the lines
 pub record MayRun (d : Decisions) (clients : ℕ) (day : Day) (lines : List RunLine) : Type 0 where
   pub formed : All (λ line. IsRun (λ sid. IsTrue (d.known sid)) clients line.run) lines
   pub clients_are : HasClients clients day
-  pub in_step : IsInStep day
   pub calls : day.calls + length lines < 2 ^ 64
   pub changes : day.changes + length lines < 2 ^ 64
 

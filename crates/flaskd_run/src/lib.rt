@@ -1,6 +1,7 @@
 //! The program: reads a session, runs its lines on the managers, and prints what they answer.
 #![tactic(auto)]
 
+mod answers;
 mod auditing;
 mod lines;
 mod reading;

@@ -1,16 +1,17 @@
 //! Lines run one after another.
 
-ghost use Rattle.std.specs.Prelude.{◌≡◌, ◌+◌, ◌<◌, ◌≤◌, ◌^◌, [], length, Err, IsTrue, OnOk, OnErr};
+ghost use Rattle.std.specs.Prelude.{◌≡◌, ◌+◌, ◌<◌, ◌≤◌, ◌^◌, [], length, true, Err, IsTrue, OnOk, OnErr};
 ghost use Rattle.flask_io.specs.Streams.{Adds, HasCause};
 ghost use Rattle.audit_log.specs.Logs.{Gains};
-ghost use Rattle.session_desk.specs.Desks.{HasClients, IsInStep, IsSameOpening};
+ghost use Rattle.session_desk.specs.Desks.{HasClients, IsSameOpening};
 ghost use Rattle.session_text.specs.Sessions.{IsRun};
 ghost use Rattle.flaskd_run.specs.Serial;
 ghost use Rattle.flaskd_run.specs.Underway.{MayRun};
 ghost use Rattle.flaskd_run.specs.Writing.{AddsFront};
 ghost use Rattle.flaskd_run.specs.declared.stop.RunStop.{RunStop};
 
-use crate::lines::{act, asked_of, caller_of, run_line};
+use crate::answers::put_answer;
+use crate::lines::{act, caller_of};
 use crate::stop::{RunStop, put_line};
 use access_vectors::Decider;
 use audit_log::AuditLog;
@@ -20,6 +21,7 @@ use policy_model::PolicyParts;
 use session_desk::Desk;
 use session_text::{ClientLine, RunLine};
 use std::alloc::Global;
+use std::sync::Wait;
 
 /// What a run knows of its session besides its lines.
 #[derive(Drop)]
@@ -33,7 +35,8 @@ pub struct Setting<'a> {
 }
 
 /// Runs a line, puts what it prints, and logs its audit lines where they are printed.
-fn run_audited<D: Decider>(
+fn run_audited<R: Wait, D: Decider>(
+    rt: &R,
     alloc: Global,
     desk: &mut Desk<'_, D>,
     setting: &Setting<'_>,
@@ -46,7 +49,7 @@ fn run_audited<D: Decider>(
     requires few { length setting.now.clients.now ≤ 62 }
     requires log { length log.old ≡ length setting.now.clients.now }
     requires clients { HasClients (length setting.now.clients.now) desk.old.day }
-    requires in_step { IsInStep desk.old.day }
+    requires whole { desk.old.whole ≡ true }
     requires calls { desk.old.day.calls + 1 < 2 ^ 64 }
     requires changes { desk.old.day.changes + 1 < 2 ^ 64 }
     ensures text { OnOk result (out.new ≡ Serial.line_text setting.now.contexts.now (D.decides desk.old.decider) setting.now.clients.now desk.old.day line.line line.run) }
@@ -56,27 +59,31 @@ fn run_audited<D: Decider>(
     ensures logged { length log.new ≡ length log.old }
     ensures opening { IsSameOpening desk.old.day desk.new.day }
     ensures decider { desk.new.decider ≡ desk.old.decider }
+    ensures whole { OnOk result (desk.new.whole ≡ true) }
 {
     let caller = if setting.audited {
         caller_of(desk, &line)
     } else {
         None
     };
-    run_line(alloc, desk, setting.contexts, setting.clients, line, out)?;
+    let number = line.line;
+    let answer = act(rt, alloc, desk, setting.clients.len(), line)?;
+    put_answer(out, setting.contexts, setting.clients, number, &answer)?;
     match caller {
         None => Ok(()),
         Some(caller) => log.log(
             setting.policy,
             setting.contexts,
             caller.acting,
-            asked_of(desk, caller.manager),
+            desk.asked(caller.manager),
         ),
     }
 }
 
 /// Runs all lines and writes what they print, each line in a write of its own, and logs their audit lines where they are
 /// printed.
-pub fn run_lines<D: Decider, K: Sink>(
+pub fn run_lines<R: Wait, D: Decider, K: Sink>(
+    rt: &R,
     alloc: Global,
     desk: &mut Desk<'_, D>,
     setting: &Setting<'_>,
@@ -85,6 +92,7 @@ pub fn run_lines<D: Decider, K: Sink>(
     sink: &mut K,
 ) -> Result<(), RunStop>
     requires may { MayRun (D.decides desk.old.decider) (length setting.now.clients.now) desk.old.day lines.items }
+    requires whole { desk.old.whole ≡ true }
     requires few { length setting.now.clients.now ≤ 62 }
     requires log { length log.old ≡ length setting.now.clients.now }
     ensures ok { OnOk result (Adds (K.written sink.old) (K.written sink.new)
@@ -99,25 +107,50 @@ pub fn run_lines<D: Decider, K: Sink>(
     let mut out = Piece::new(alloc);
     'lines: for line in lines {
         out.clear();
-        run_audited(alloc, desk, setting, line, log, &mut out)?;
+        run_audited(rt, alloc, desk, setting, line, log, &mut out)?;
         put_line(sink, &out)?;
     }
     Ok(())
 }
 
+/// Does what a line asks, and drops its answer.
+fn act_quietly<R: Wait, D: Decider>(
+    rt: &R,
+    alloc: Global,
+    desk: &mut Desk<'_, D>,
+    clients: usize,
+    line: RunLine,
+) -> Result<(), Memory>
+    requires formed { IsRun (λ sid. IsTrue ((D.decides desk.old.decider).known sid)) clients line.run }
+    requires few { clients ≤ 62 }
+    requires clients { HasClients clients desk.old.day }
+    requires whole { desk.old.whole ≡ true }
+    requires calls { desk.old.day.calls + 1 < 2 ^ 64 }
+    requires changes { desk.old.day.changes + 1 < 2 ^ 64 }
+    ensures day { OnOk result (desk.new.day ≡ Serial.day_after (D.decides desk.old.decider) desk.old.day line.run) }
+    ensures opening { IsSameOpening desk.old.day desk.new.day }
+    ensures decider { desk.new.decider ≡ desk.old.decider }
+    ensures whole { OnOk result (desk.new.whole ≡ true) }
+{
+    let _answer = act(rt, alloc, desk, clients, line)?;
+    Ok(())
+}
+
 /// Runs all lines, and writes nothing.
-pub fn run_quietly<D: Decider>(
+pub fn run_quietly<R: Wait, D: Decider>(
+    rt: &R,
     alloc: Global,
     desk: &mut Desk<'_, D>,
     clients: usize,
     lines: Vec<RunLine>,
 ) -> Result<(), Memory>
     requires may { MayRun (D.decides desk.old.decider) clients desk.old.day lines.items }
+    requires whole { desk.old.whole ≡ true }
     requires few { clients ≤ 62 }
     ensures day { OnOk result (desk.new.day ≡ Serial.day_below (D.decides desk.old.decider) desk.old.day lines.items) }
 {
     'lines: for line in lines {
-        act(alloc, desk, clients, line)?;
+        act_quietly(rt, alloc, desk, clients, line)?;
     }
     Ok(())
 }

@@ -1,6 +1,6 @@
 //! A session, run in the text's order on one thread.
 
-ghost use Rattle.std.specs.Prelude.{◌≡◌, ◌≤◌, ℕ, [], length, map, replicate, Err, IsTrue, IfOk, OnOk, OnErr};
+ghost use Rattle.std.specs.Prelude.{◌≡◌, ◌≤◌, ℕ, [], true, length, map, replicate, Err, IsTrue, IfOk, OnOk, OnErr};
 ghost use Rattle.flask_io.specs.Streams.{Adds, HasCause};
 ghost use Rattle.session_desk.specs.Days;
 ghost use Rattle.session_desk.specs.Desks.{AreOpenings};
@@ -25,6 +25,7 @@ use process_calls::ProcessOpening;
 use session_desk::{Desk, Openings};
 use session_text::{ClientLine, RunLine, SessionParts};
 use std::alloc::Global;
+use std::sync::Wait;
 
 /// What the managers are opened with: a client acts as its context, and the root and ports without a line have theirs.
 fn openings_of(
@@ -83,7 +84,8 @@ fn write_summary<D: Decider, K: Sink>(
 
 /// Runs lines on a desk, and writes what they print: their answers, their audit lines, which the log keeps till then, and the
 /// summary. Where it stops before, a front of the text was written.
-fn run_to_end<D: Decider, K: Sink>(
+fn run_to_end<R: Wait, D: Decider, K: Sink>(
+    rt: &R,
     alloc: Global,
     desk: &mut Desk<'_, D>,
     setting: &Setting<'_>,
@@ -92,6 +94,7 @@ fn run_to_end<D: Decider, K: Sink>(
     sink: &mut K,
 ) -> Result<(), RunStop>
     requires may { MayRun (D.decides desk.old.decider) (length setting.now.clients.now) desk.old.day lines.items }
+    requires whole { desk.old.whole ≡ true }
     requires few { length setting.now.clients.now ≤ 62 }
     requires log { log.old ≡ replicate (length setting.now.clients.now) [] }
     ensures ok { OnOk result (Adds (K.written sink.old) (K.written sink.new)
@@ -100,13 +103,14 @@ fn run_to_end<D: Decider, K: Sink>(
         (Serial.run_text setting.now.audited setting.now.policy.now setting.now.contexts.now (D.decides desk.old.decider) setting.now.clients.now desk.old.day lines.items)) }
     ensures cause { HasCause (K.faults sink.old) (K.faults sink.new) (result ≡ Err RunStop.WriteFault) }
 {
-    run_lines(alloc, desk, setting, lines, log, sink)?;
+    run_lines(rt, alloc, desk, setting, lines, log, sink)?;
     write_audit(alloc, setting.contexts, log, 0, setting.clients, sink)?;
     write_summary(alloc, desk, sink)
 }
 
 /// Opens the managers, and runs lines on them.
-fn run_opened<D: Decider, K: Sink>(
+fn run_opened<R: Wait, D: Decider, K: Sink>(
+    rt: &R,
     alloc: Global,
     decider: &D,
     openings: Openings,
@@ -126,11 +130,12 @@ fn run_opened<D: Decider, K: Sink>(
     ensures cause { HasCause (K.faults sink.old) (K.faults sink.new) (result ≡ Err RunStop.WriteFault) }
 {
     let mut desk = Desk::new(alloc, decider, openings)?;
-    run_to_end(alloc, &mut desk, setting, lines, log, sink)
+    run_to_end(rt, alloc, &mut desk, setting, lines, log, sink)
 }
 
 /// Runs lines with a log for their audit lines.
-fn run_logged<D: Decider, K: Sink>(
+fn run_logged<R: Wait, D: Decider, K: Sink>(
+    rt: &R,
     alloc: Global,
     decider: &D,
     openings: Openings,
@@ -148,13 +153,14 @@ fn run_logged<D: Decider, K: Sink>(
     ensures cause { HasCause (K.faults sink.old) (K.faults sink.new) (result ≡ Err RunStop.WriteFault) }
 {
     let mut log = AuditLog::new(alloc, setting.clients.len() as u8)?;
-    run_opened(alloc, decider, openings, setting, lines, &mut log, sink)
+    run_opened(rt, alloc, decider, openings, setting, lines, &mut log, sink)
 }
 
 /// Runs a session on a decider, whose identifiers stand for these contexts, and writes its text. Where it stops before, a
 /// front of the text was written.
 #[tactic(auto, unfolding(crate::specs::Serial::text_on))]
-pub fn serial<D: Decider, K: Sink>(
+pub fn serial<R: Wait, D: Decider, K: Sink>(
+    rt: &R,
     alloc: Global,
     session: SessionParts,
     decider: &D,
@@ -185,11 +191,12 @@ pub fn serial<D: Decider, K: Sink>(
         clients: clients.as_slice(),
         audited: audit,
     };
-    run_logged(alloc, decider, openings, &setting, lines.into_vec(), sink)
+    run_logged(rt, alloc, decider, openings, &setting, lines.into_vec(), sink)
 }
 
 /// Runs lines on a desk, and writes the summary alone. Where it stops before, a front of the summary was written.
-fn sum_to_end<D: Decider, K: Sink>(
+fn sum_to_end<R: Wait, D: Decider, K: Sink>(
+    rt: &R,
     alloc: Global,
     desk: &mut Desk<'_, D>,
     clients: usize,
@@ -197,6 +204,7 @@ fn sum_to_end<D: Decider, K: Sink>(
     sink: &mut K,
 ) -> Result<(), RunStop>
     requires may { MayRun (D.decides desk.old.decider) clients desk.old.day lines.items }
+    requires whole { desk.old.whole ≡ true }
     requires few { clients ≤ 62 }
     ensures ok { OnOk result (Adds (K.written sink.old) (K.written sink.new)
         (Serial.summary_of (Serial.day_below (D.decides desk.old.decider) desk.old.day lines.items))) }
@@ -204,12 +212,13 @@ fn sum_to_end<D: Decider, K: Sink>(
         (Serial.summary_of (Serial.day_below (D.decides desk.old.decider) desk.old.day lines.items))) }
     ensures cause { HasCause (K.faults sink.old) (K.faults sink.new) (result ≡ Err RunStop.WriteFault) }
 {
-    run_quietly(alloc, desk, clients, lines)?;
+    run_quietly(rt, alloc, desk, clients, lines)?;
     write_summary(alloc, desk, sink)
 }
 
 /// Opens the managers, runs lines on them, and writes the summary alone.
-fn sum_opened<D: Decider, K: Sink>(
+fn sum_opened<R: Wait, D: Decider, K: Sink>(
+    rt: &R,
     alloc: Global,
     decider: &D,
     openings: Openings,
@@ -227,12 +236,13 @@ fn sum_opened<D: Decider, K: Sink>(
     ensures cause { HasCause (K.faults sink.old) (K.faults sink.new) (result ≡ Err RunStop.WriteFault) }
 {
     let mut desk = Desk::new(alloc, decider, openings)?;
-    sum_to_end(alloc, &mut desk, clients, lines, sink)
+    sum_to_end(rt, alloc, &mut desk, clients, lines, sink)
 }
 
 /// Runs a session on a decider, and writes its summary alone.
 #[tactic(auto, unfolding(crate::specs::Serial::summary_on))]
-pub fn summary<D: Decider, K: Sink>(
+pub fn summary<R: Wait, D: Decider, K: Sink>(
+    rt: &R,
     alloc: Global,
     session: SessionParts,
     decider: &D,
@@ -257,6 +267,7 @@ pub fn summary<D: Decider, K: Sink>(
     } = session;
     let openings = openings_of(alloc, root, nodes, port, ports, clients.as_slice())?;
     sum_opened(
+        rt,
         alloc,
         decider,
         openings,

@@ -5,17 +5,28 @@ ghost use Rattle.policy_versions.specs.Judging.{context_with};
 ghost use Rattle.flaskd_run.specs.Texts;
 
 use access_vectors::{Perm, class_name, perm_name};
+use change_protocol::{AckAll, NotifyAllFault, Said};
 use file_calls::FileReply;
 use flask_sid::{Context, Memory, Piece, Sid, SidTable};
-use manager_history::{Ack, NotifyFault};
 use port_calls::PortReply;
 use process_calls::ProcessReply;
-use session_desk::{Acks, Left};
+use session_desk::{Acks, Reply};
 use session_forms::Manager;
 use text_lines::put_number;
 
+/// Puts a reply, whose labels are identifiers of these contexts.
+pub fn put_reply(out: &mut Piece, contexts: &SidTable, reply: &Reply) -> Result<(), Memory>
+    ensures { OnOk result (out.new ≡ out.old ++ Texts.any_reply_text contexts.now reply.now) }
+{
+    match reply {
+        Reply::File(reply) => put_file_reply(out, contexts, reply),
+        Reply::Process(reply) => put_process_reply(out, contexts, reply),
+        Reply::Port(reply) => put_port_reply(out, contexts, reply),
+    }
+}
+
 /// Puts a reply of the file manager, whose labels are identifiers of these contexts.
-pub fn put_reply(out: &mut Piece, contexts: &SidTable, reply: &FileReply) -> Result<(), Memory>
+fn put_file_reply(out: &mut Piece, contexts: &SidTable, reply: &FileReply) -> Result<(), Memory>
     ensures { OnOk result (out.new ≡ out.old ++ Texts.reply_text contexts.now reply.now) }
 {
     match reply {
@@ -38,7 +49,7 @@ pub fn put_reply(out: &mut Piece, contexts: &SidTable, reply: &FileReply) -> Res
 }
 
 /// Puts a reply of the process manager, whose labels are identifiers of these contexts.
-pub fn put_process_reply(
+fn put_process_reply(
     out: &mut Piece,
     contexts: &SidTable,
     reply: &ProcessReply,
@@ -69,7 +80,7 @@ fn put_num(out: &mut Piece, number: u32) -> Result<(), Memory>
 }
 
 /// Puts a reply of the port manager, whose labels are identifiers of these contexts.
-pub fn put_port_reply(out: &mut Piece, contexts: &SidTable, reply: &PortReply) -> Result<(), Memory>
+fn put_port_reply(out: &mut Piece, contexts: &SidTable, reply: &PortReply) -> Result<(), Memory>
     ensures { OnOk result (out.new ≡ out.old ++ Texts.port_reply_text contexts.now reply.now) }
 {
     match reply {
@@ -202,69 +213,82 @@ pub fn put_admin(out: &mut Piece, line: u32) -> Result<(), Memory>
 }
 
 /// Puts what a notice got.
-pub fn put_notice(out: &mut Piece, said: &Result<u32, NotifyFault>) -> Result<(), Memory>
-    ensures { OnOk result (out.new ≡ out.old ++ Texts.said_text said.now) }
+pub fn put_notice(out: &mut Piece, said: &Result<u32, NotifyAllFault>) -> Result<(), Memory>
+    ensures { OnOk result (out.new ≡ out.old ++ Texts.notice_text said.now) }
 {
     match said {
         Ok(number) => {
             out.extend(b"notified ")?;
             put_number(out, u64::from(*number))
         }
-        Err(NotifyFault::Pending(pending)) => {
+        Err(NotifyAllFault::Pending(pending)) => {
             out.extend(b"pending ")?;
             put_number(out, u64::from(*pending))
         }
-        Err(NotifyFault::NoVersion) => out.extend(b"noversion"),
-        Err(NotifyFault::Spent) => out.extend(b"spent"),
-        Err(NotifyFault::Memory) => out.extend(b"memory"),
+        Err(NotifyAllFault::NoVersion) => out.extend(b"noversion"),
+        Err(NotifyAllFault::Spent) => out.extend(b"spent"),
+        Err(NotifyAllFault::Memory { .. }) => out.extend(b"memory"),
     }
 }
 
 /// Puts what an update got.
-pub fn put_updated(out: &mut Piece, left: &Left) -> Result<(), Memory>
+pub fn put_updated(out: &mut Piece, left: &[u64]) -> Result<(), Memory>
     ensures { OnOk result (out.new ≡ out.old ++ Texts.updated_text left.now) }
 {
-    out.extend(b"updated ")?;
-    put_number(out, left.files)?;
-    out.extend(b" ")?;
-    put_number(out, left.processes)?;
-    out.extend(b" ")?;
-    put_number(out, left.ports)
+    out.extend(b"updated")?;
+    put_numbers(out, left)
+}
+
+fn put_numbers(out: &mut Piece, numbers: &[u64]) -> Result<(), Memory>
+    ensures { OnOk result (out.new ≡ out.old ++ Texts.numbers_text numbers.now) }
+{
+    match numbers {
+        [] => Ok(()),
+        [number, rest @ ..] => {
+            out.extend(b" ")?;
+            put_number(out, *number)?;
+            put_numbers(out, rest)
+        }
+    }
 }
 
 /// Puts what an acknowledgement got.
 pub fn put_acks(out: &mut Piece, acks: &Acks) -> Result<(), Memory>
     ensures { OnOk result (out.new ≡ out.old ++ Texts.ack_text acks.now) }
 {
-    if !acks.changing {
-        return out.extend(b"idle");
+    match acks.all {
+        AckAll::Idle => out.extend(b"idle"),
+        AckAll::Complete(number) => {
+            out.extend(b"complete ")?;
+            put_number(out, u64::from(number))
+        }
+        AckAll::Waiting => {
+            out.extend(b"waiting")?;
+            put_items(out, acks.said.as_slice())
+        }
     }
-    if acks.is_complete() {
-        out.extend(b"complete ")?;
-        return put_number(out, u64::from(acks.number));
-    }
-    put_waiting(out, acks)
 }
 
-/// Puts what each manager got, where some manager keeps a change back.
-fn put_waiting(out: &mut Piece, acks: &Acks) -> Result<(), Memory>
-    ensures { OnOk result (out.new ≡ out.old ++ Texts.waiting_text acks.now) }
+fn put_items(out: &mut Piece, said: &[Said]) -> Result<(), Memory>
+    ensures { OnOk result (out.new ≡ out.old ++ Texts.items_text said.now) }
 {
-    out.extend(b"waiting ")?;
-    put_item(out, &acks.files)?;
-    out.extend(b" ")?;
-    put_item(out, &acks.processes)?;
-    out.extend(b" ")?;
-    put_item(out, &acks.ports)
+    match said {
+        [] => Ok(()),
+        [one, rest @ ..] => {
+            out.extend(b" ")?;
+            put_item(out, one)?;
+            put_items(out, rest)
+        }
+    }
 }
 
-fn put_item(out: &mut Piece, ack: &Ack) -> Result<(), Memory>
-    ensures { OnOk result (out.new ≡ out.old ++ Texts.item_text ack.now) }
+fn put_item(out: &mut Piece, said: &Said) -> Result<(), Memory>
+    ensures { OnOk result (out.new ≡ out.old ++ Texts.item_text said.now) }
 {
-    match ack {
-        Ack::Busy { older } => put_count(out, b"busy:", *older),
-        Ack::Behind { left } => put_count(out, b"behind:", *left),
-        _ => out.extend(b"kept"),
+    match said {
+        Said::Busy(older) => put_count(out, b"busy:", *older),
+        Said::Behind(left) => put_count(out, b"behind:", *left),
+        Said::Kept | Said::Idle => out.extend(b"kept"),
     }
 }
 

@@ -33,7 +33,7 @@ use text_lines::TextFault;
 /// Runs the program by the words of its command, the program's own name not among them: runs a session that is read from
 /// the source and writes what it prints to the sink, or makes a session, runs it and writes its summary.
 pub fn flaskd<R: Threads + Wait, S: Source, K: Sink, G: Stops>(
-    _rt: &R,
+    rt: &R,
     alloc: Global,
     words: &[Word<'_>],
     source: &mut S,
@@ -63,19 +63,19 @@ pub fn flaskd<R: Threads + Wait, S: Source, K: Sink, G: Stops>(
     };
     match asked {
         None => Status::Usage,
-        Some(Command::Serial) => read_and_run(alloc, source, sink),
+        Some(Command::Serial) => read_and_run(rt, alloc, source, sink),
         Some(
             Command::Generate {
                 seed,
                 clients,
                 lines,
             },
-        ) => generate(alloc, seed, clients, lines, sink),
+        ) => generate(rt, alloc, seed, clients, lines, sink),
     }
 }
 
 /// Reads a session from the source, runs it and writes what it prints.
-fn read_and_run<S: Source, K: Sink>(alloc: Global, source: &mut S, sink: &mut K) -> Status
+fn read_and_run<R: Wait, S: Source, K: Sink>(rt: &R, alloc: Global, source: &mut S, sink: &mut K) -> Status
     ensures ran { Top.Ran result (Some Command.Serial) (S.left source.old) (S.left source.new) (K.written sink.old) (K.written sink.new) }
     ensures command { result ≡ Status.Usage → ⊥ }
     ensures read_fault { HasCause (S.faults source.old) (S.faults source.new) (result ≡ Status.ReadFault) }
@@ -90,13 +90,13 @@ fn read_and_run<S: Source, K: Sink>(alloc: Global, source: &mut S, sink: &mut K)
             if bytes.len() > INPUT_LIMIT {
                 return Status::TooLarge;
             }
-            serve(alloc, bytes.as_slice(), sink)
+            serve(rt, alloc, bytes.as_slice(), sink)
         }
     }
 }
 
 /// Reads the bytes as a session, runs it and writes what it prints.
-fn serve<K: Sink>(alloc: Global, bytes: &[u8], sink: &mut K) -> Status
+fn serve<R: Wait, K: Sink>(rt: &R, alloc: Global, bytes: &[u8], sink: &mut K) -> Status
     ensures served { Top.Served result Command.Serial (session_of bytes.now) (K.written sink.old) (K.written sink.new) }
     ensures silent { Top.IsSilent result → sink.new ≡ sink.old }
     ensures cause { HasCause (K.faults sink.old) (K.faults sink.new) (result ≡ Status.WriteFault) }
@@ -104,12 +104,12 @@ fn serve<K: Sink>(alloc: Global, bytes: &[u8], sink: &mut K) -> Status
     match read(alloc, bytes) {
         Err(TextFault::Memory) => Status::Memory,
         Err(TextFault::Text { line, kind }) => Status::BadText { line, kind },
-        Ok(session) => run(alloc, Command::Serial, session, sink),
+        Ok(session) => run(rt, alloc, Command::Serial, session, sink),
     }
 }
 
 /// Makes a session of three numbers, runs it and writes its summary.
-fn generate<K: Sink>(alloc: Global, seed: u32, clients: u8, lines: u32, sink: &mut K) -> Status
+fn generate<R: Wait, K: Sink>(rt: &R, alloc: Global, seed: u32, clients: u8, lines: u32, sink: &mut K) -> Status
     requires { IsWithin seed clients lines }
     ensures served { Top.Served result (Command.Generate seed clients lines) (Ok (generated seed clients lines)) (K.written sink.old) (K.written sink.new) }
     ensures made { Top.IsEndOfMade result }
@@ -123,12 +123,12 @@ fn generate<K: Sink>(alloc: Global, seed: u32, clients: u8, lines: u32, sink: &m
     };
     match session_generator::generated(alloc, seed, clients, lines) {
         Err(Memory) => Status::Memory,
-        Ok(session) => run(alloc, asked, session, sink),
+        Ok(session) => run(rt, alloc, asked, session, sink),
     }
 }
 
 /// Compiles a session's policy, runs the session and writes what the command prints.
-fn run<K: Sink>(alloc: Global, asked: Command, session: Session, sink: &mut K) -> Status
+fn run<R: Wait, K: Sink>(rt: &R, alloc: Global, asked: Command, session: Session, sink: &mut K) -> Status
     ensures served { Top.Served result asked (Ok session) (K.written sink.old) (K.written sink.new) }
     ensures silent { Top.IsSilent result → sink.new ≡ sink.old }
     ensures cause { HasCause (K.faults sink.old) (K.faults sink.new) (result ≡ Status.WriteFault) }
@@ -137,7 +137,7 @@ fn run<K: Sink>(alloc: Global, asked: Command, session: Session, sink: &mut K) -
     let policy = parts.policy.parts();
     match compile(alloc, &parts.policy) {
         Err(fault) => refused(alloc, policy, fault),
-        Ok(catalogue) => match write(alloc, asked, parts, &catalogue, catalogue.sids(), sink) {
+        Ok(catalogue) => match write(rt, alloc, asked, parts, &catalogue, catalogue.sids(), sink) {
             Ok(()) => Status::Ok,
             Err(RunStop::WriteFault) => Status::WriteFault,
             Err(RunStop::Memory) => Status::Memory,
@@ -146,7 +146,8 @@ fn run<K: Sink>(alloc: Global, asked: Command, session: Session, sink: &mut K) -
 }
 
 /// Runs a session on a decider and writes what the command prints.
-fn write<D: Decider, K: Sink>(
+fn write<R: Wait, D: Decider, K: Sink>(
+    rt: &R,
     alloc: Global,
     asked: Command,
     session: SessionParts,
@@ -162,8 +163,8 @@ fn write<D: Decider, K: Sink>(
     ensures cause { HasCause (K.faults sink.old) (K.faults sink.new) (result ≡ Err RunStop.WriteFault) }
 {
     match asked {
-        Command::Serial => serial(alloc, session, decider, contexts, sink),
-        Command::Generate { .. } => summary(alloc, session, decider, sink),
+        Command::Serial => serial(rt, alloc, session, decider, contexts, sink),
+        Command::Generate { .. } => summary(rt, alloc, session, decider, sink),
     }
 }
 

@@ -1,4 +1,3 @@
-pub mod Judging
 pub mod Bits
 pub mod Judged
 pub mod Asks

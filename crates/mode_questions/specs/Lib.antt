@@ -1,5 +1,3 @@
-pub mod Answering
-pub mod Honest
 pub mod Covered
 pub mod Requests
 pub mod Honesty

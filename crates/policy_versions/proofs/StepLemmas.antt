@@ -1,10 +1,11 @@
 -- Steps that stay.
-use Rattle.std.proofs.Common.{◌≡◌, ◌<◌, ◌+◌, ◌⊎◌, inl, inr, ℕ, Bool, true, false, cond, List, refl, sym, subst, ◌∙◌, below_more}
+use Rattle.std.proofs.Common.{◌≡◌, ◌<◌, ◌+◌, ◌⊎◌, inl, inr, ℕ, Bool, true, false, cond, List, refl, sym, subst, ◌∙◌, ◌-◌, arith, below_more}
 use Rattle.std.specs.Prelude.{◌||◌, ◌&&◌, ◌==◌}
 use Rattle.std.proofs.lemmas.Bool.{both_ways, or_cases, or_right, and_parts, and_from, eqb-true, eq-eqb}
 use Rattle.access_vectors.specs.declared.class.Class.{Class}
 use Rattle.policy_model.specs.Deciding.{takes_after_maker}
-use Rattle.policy_versions.specs.Gives.{GivenPlaces}
+use Rattle.policy_model.specs.declared.policy.Labelling.TheVariants.{Transition, Member}
+use Rattle.policy_versions.specs.Gives.{GivenPlaces, GivesAs}
 use Rattle.policy_versions.specs.Numbers.{is_marked, made_kind}
 use Rattle.policy_versions.specs.Steps.{StayMarked, TakesClass, Takes, TakesTargets, TakesSources, TakesVersions, GivesOwn, GivesObject, OnlyGives, IsDue, AreDue}
 
@@ -80,6 +81,21 @@ versions_next given present version own object own' object' to_own to_object bel
     below_next (λ k o b. TakesSources given present k 128 o b)
     (λ k o b o' b' so sb takes s of_s marked t small is class. takes_class_stays given k s t class o b o' b' so sb (takes s of_s marked t small is class))
     version own object own' object' to_own to_object below here
+
+-- a version takes no more steps than one that gives the same
+pub sources_as : (given : GivenPlaces) (present : List Bool) (version other : ℕ) (own object : List Bool) → GivesAs given version other → TakesSources given present other 128 own object → TakesSources given present version 128 own object
+sources_as given present version other own object same takes s of_s s_marked t of_t t_marked class =
+    let there = takes s of_s s_marked t of_t t_marked class in
+    record {
+      label = rw (same Transition s t class) there.label;
+      member = λ kind gives. there.member kind (sym (same Member s t class) ∙ gives);
+    }
+
+-- one version more, which gives the same as the one before it
+pub versions_same : (given : GivenPlaces) (present : List Bool) (version : ℕ) (own object : List Bool) → 0 < version → GivesAs given version (version - 1) → TakesVersions given present version own object → TakesVersions given present (version + 1) own object
+versions_same given present version own object past same below =
+    below_more (λ k. TakesSources given present k 128 own object) version below
+    (sources_as given present version (version - 1) own object same (below (version - 1) (omega arith)))
 
 -- a mark that is there once one is set was there, or is that one
 pub mark_cases : (before now : List Bool) (at kind : ℕ) → ((r k : ℕ) → k < 128 → is_marked now r k ≡ (is_marked before r k || (at == r && kind == k))) → (row k : ℕ) → k < 128 → is_marked now row k ≡ true → (is_marked before row k ≡ true) ⊎ ((row ≡ at) × (k ≡ kind))

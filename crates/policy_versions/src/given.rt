@@ -1,7 +1,8 @@
-ghost use Rattle.std.specs.Prelude.{◌≡◌, IfOk};
+ghost use Rattle.std.specs.Prelude.{◌≡◌, IfOk, IsTrue};
 ghost use Rattle.policy_versions.specs.Kinds.{AreKindsOf};
 ghost use Rattle.policy_versions.specs.Changes.{place_in};
 ghost use Rattle.policy_versions.specs.Given.{AreGivenOf, given_at};
+ghost use Rattle.policy_versions.specs.Gives.{GivesAs};
 
 use crate::change::Content;
 use crate::kind::Kind;
@@ -36,6 +37,13 @@ impl GivenRows {
             transitions,
             members,
         })
+    }
+
+    /// Whether a version is known to give the same types as another.
+    pub(crate) fn gives_as(&self, version: u8, other: u8) -> bool
+        ensures { IsTrue result → GivesAs (given_at self.now) version other }
+    {
+        self.transitions.shares_rows(version, other) && self.members.shares_rows(version, other)
     }
 
     /// The type that a version gives by a line of a kind, or `None` where no such line matches.

@@ -40,7 +40,8 @@ impl Steps {
         self.object.has(u16::from(s.place()), kind)
     }
 
-    /// The steps that versions make for sources and targets of the present types.
+    /// The steps that versions make for sources and targets of the present types. A version that gives what the one before it
+    /// gives makes no new step.
     pub(crate) fn of(
         alloc: Global,
         given: &GivenRows,
@@ -55,7 +56,9 @@ impl Steps {
             object: Marks::new(alloc, 128)?,
         };
         'versions: for version in 0..versions {
-            steps.take_sources(given, version, present);
+            if version == 0 || !given.gives_as(version, version - 1) {
+                steps.take_sources(given, version, present);
+            }
         }
         Ok(steps)
     }

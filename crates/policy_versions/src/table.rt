@@ -1,4 +1,4 @@
-ghost use Rattle.std.specs.Prelude.{◌≡◌, ℕ, ◌+◌, ◌<◌, ◌≤◌, length, slice_index, IfOk, OnOk, IsTrue, MatchOption};
+ghost use Rattle.std.specs.Prelude.{◌≡◌, ℕ, ◌+◌, ◌<◌, ◌≤◌, length, slice_get, slice_index, IfOk, OnOk, IsTrue, MatchOption};
 ghost use Rattle.policy_model.specs.declared.policy.PolicyParts.{PolicyParts};
 ghost use Rattle.policy_versions.specs.Kinds.{AreKindsOf};
 ghost use Rattle.policy_versions.specs.Changes.{AreRules};
@@ -54,6 +54,23 @@ impl Table {
             None => 0,
             Some(row) => row.cells[usize::from(t.place())],
         }
+    }
+
+    /// Whether the rows of two versions are known to be the same, since they stand at the same places.
+    pub(crate) fn shares_rows(&self, version: u8, other: u8) -> bool
+        ensures { IsTrue result → (s t : ℕ) (class : Class) → cell_at self.now version s t class ≡ cell_at self.now other s t class }
+    {
+        match (self.firsts_of(version), self.firsts_of(other)) {
+            (Some(mine), Some(others)) => mine == others,
+            _ => false,
+        }
+    }
+
+    // The place of each class's first row in a version.
+    fn firsts_of(&self, version: u8) -> Option<[u32; 5]>
+        ensures { result ≡ slice_get self.now.firsts.items version }
+    {
+        self.firsts.as_slice().get(usize::from(version)).copied()
     }
 
     /// The row of a version, a source and a class: `None` only for a version that is not there.

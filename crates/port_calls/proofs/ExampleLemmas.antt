@@ -7,6 +7,8 @@ use Rattle.std.specs.Cmp.{nat_cmp_total}
 use Rattle.access_vectors.specs.Perms.{port_name_bind, port_recv, port_send, port_connect}
 use Rattle.access_vectors.specs.Vectors.{has}
 use Rattle.access_vectors.specs.declared.asked.Asked.{Asked}
+use Rattle.mode_questions.specs.Requests.{Request}
+use Rattle.port_calls.specs.Plain.{request_of}
 use Rattle.port_calls.specs.States.{Bound, Held, PortState, PortAnswer, opened_with, asking_whole, after_asking}
 use Rattle.port_calls.specs.Rows.{bind_into, bound_at, connect_into, connected_at, used, with_bound, sent, received, is_on_port, slots_without, unbound_at}
 use Rattle.port_calls.specs.declared.call.PortCall.{PortCall}
@@ -84,34 +86,38 @@ second_asked = record { s = 2; t = 4; perm = port_send; yes = true } ∷ record 
 abbrev told : PortReply → PortState → List Asked → PortAnswer
 told said state asked = record { reply = said; state = state; asked = asked }
 
+-- a client's request in a state, under number 0 with version 0
+abbrev asks : PortState → ℕ → Request
+asks state client = request_of day_decisions state client 0 0
+
 bind_is : day_answer (opened_with one_port_opening) 0 day_bind ≡ told Done (state_with bound_ports one_slot) first_asked
 unfolding has
 bind_is =
-    ap (bind_into day_decisions (opened_with one_port_opening) 1 0 0 0 1 80 3) (maps.get-empty nat_cmp 1)
-    ∙ ap (bound_at day_decisions (opened_with one_port_opening) 1 0 0 0 1 80 3) (maps.get-empty nat_cmp 80)
+    ap (bind_into (asks (opened_with one_port_opening) 0) (opened_with one_port_opening) 1 80 3) (maps.get-empty nat_cmp 1)
+    ∙ ap (bound_at (asks (opened_with one_port_opening) 0) (opened_with one_port_opening) 1 80 3) (maps.get-empty nat_cmp 80)
 
 connect_is : day_answer (state_with bound_ports one_slot) 1 day_connect ≡ told Done (state_with bound_ports two_slots) second_asked
 unfolding has
 connect_is =
     let state = state_with bound_ports one_slot in
-    ap (connect_into day_decisions state 2 0 0 258 80 12) second_free ∙ ap (connected_at day_decisions state 2 0 0 258 80 12) (port_is maps.empty quiet)
+    ap (connect_into (asks state 1) state 258 80 12) second_free ∙ ap (connected_at (asks state 1) state 258 80 12) (port_is maps.empty quiet)
 
 push_is : day_answer (state_with bound_ports two_slots) 1 day_push ≡ told Done (state_with pushed_ports two_slots) second_asked
 unfolding has
 push_is =
     let state = state_with bound_ports two_slots in
-    ap (λ (held : Option Held). used day_decisions state 2 0 0 port_send held (λ port bound. sent state port bound (codes "ping"))) second_is
-    ∙ ap (λ (bound : Option Bound). with_bound state bound (λ bound. after_asking state 0 (asking_whole day_decisions 0 2 4 12) (sent state 80 bound (codes "ping")))) (port_is maps.empty quiet)
+    ap (λ (held : Option Held). used (asks state 1) state port_send held (λ port bound. sent state port bound (codes "ping"))) second_is
+    ∙ ap (λ (bound : Option Bound). with_bound state bound (λ bound. after_asking (asks state 1) state (asking_whole (asks state 1) 4 12) (sent state 80 bound (codes "ping")))) (port_is maps.empty quiet)
 
 -- a recv in a state with these ports, by what is bound at the port
 recv_is : (ports : FinMap nat_cmp Bound) (bound : Bound) → maps.get ports 80 ≡ Some bound
     → day_answer (state_with ports two_slots) 0 day_recv
-    ≡ after_asking (state_with ports two_slots) 0 (asking_whole day_decisions 0 1 4 3) (received (state_with ports two_slots) 80 bound bound.messages)
+    ≡ after_asking (asks (state_with ports two_slots) 0) (state_with ports two_slots) (asking_whole (asks (state_with ports two_slots) 0) 4 3) (received (state_with ports two_slots) 80 bound bound.messages)
 unfolding has
 recv_is ports bound is =
     let state = state_with ports two_slots in
-    ap (λ (held : Option Held). used day_decisions state 1 0 0 port_recv held (λ port bound. received state port bound bound.messages)) first_is
-    ∙ ap (λ (found : Option Bound). with_bound state found (λ bound. after_asking state 0 (asking_whole day_decisions 0 1 4 3) (received state 80 bound bound.messages))) is
+    ap (λ (held : Option Held). used (asks state 0) state port_recv held (λ port bound. received state port bound bound.messages)) first_is
+    ∙ ap (λ (found : Option Bound). with_bound state found (λ bound. after_asking (asks state 0) state (asking_whole (asks state 0) 4 3) (received state 80 bound bound.messages))) is
 
 message_is : day_answer (state_with pushed_ports two_slots) 0 day_recv ≡ told (Bytes (codes "ping")) (state_with received_ports two_slots) first_asked
 unfolding has
@@ -126,7 +132,7 @@ unfolding has
 unbind_is = ap (unbound_at (state_with received_ports two_slots) 1) first_is
 
 bad_is : day_answer unbound_now 1 day_push ≡ told BadSlot unbound_now []
-bad_is = ap (λ (held : Option Held). used day_decisions unbound_now 2 0 0 port_send held (λ port bound. sent unbound_now port bound (codes "ping"))) second_gone
+bad_is = ap (λ (held : Option Held). used (asks unbound_now 1) unbound_now port_send held (λ port bound. sent unbound_now port bound (codes "ping"))) second_gone
 
 -- an answer in a state that is another one by its name
 answered : (state now next : PortState) (client : ℕ) (call : PortCall) (said : PortReply) (asked : List Asked) → state ≡ now → day_answer now client call ≡ told said next asked

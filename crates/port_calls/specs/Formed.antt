@@ -1,5 +1,6 @@
 -- Calls as a session may give them: which slots, ports, modes and data there are.
-use Rattle.std.specs.Prelude.{◌≡◌, ℕ, ◌<◌, ◌≤◌, ◌⊎◌, List, length}
+use Rattle.std.specs.Prelude.{◌≡◌, ℕ, ◌<◌, ◌≤◌, ◌⊎◌, Bool, ◌&&◌, nat_le, List, length}
+use Rattle.std.specs.List.{AllPass}
 use Rattle.port_calls.specs.declared.call.PortCall.{PortCall}
 use Rattle.port_calls.specs.declared.call.PortCall.TheVariants as call
 
@@ -31,9 +32,13 @@ IsBindMode mode = (mode ≡ bind_mode) ⊎ (mode ≡ bind_recv_mode)
 abbrev pub IsConnectMode : ℕ → Type 0
 IsConnectMode mode = (mode ≡ connect_mode) ⊎ (mode ≡ connect_send_mode)
 
--- what is sent: 1 to 1,024 bytes, of which the manager takes at most 256
+-- a byte of data: one that words are made of
+abbrev pub is_data_byte : ℕ → Bool
+is_data_byte b = nat_le 33 b && nat_le b 126
+
+-- what is sent: 1 to 1,024 such bytes, of which the manager takes at most 256
 abbrev pub IsData : List ℕ → Type 0
-IsData piece = (0 < length piece) × (length piece ≤ 1024)
+IsData piece = (0 < length piece) × (length piece ≤ 1024) × AllPass is_data_byte piece
 
 -- a call with its slot, its port, its mode and its data in their ranges
 abbrev pub IsCall : PortCall → Type 0

@@ -4,6 +4,7 @@ use Rattle.std.specs.FinMap as maps
 use Rattle.access_vectors.specs.Decisions.{Decisions}
 use Rattle.access_vectors.specs.Stale.{Follows, Pair, slot_place}
 use Rattle.manager_history.specs.Answers.{Denial}
+use Rattle.mode_questions.specs.Requests.{Request}
 use Rattle.port_calls.specs.Formed.{IsCall}
 use Rattle.port_calls.specs.States.{Held, PortState, PortAnswer, sid_of, label_of}
 use Rattle.port_calls.specs.Rows.{is_on_port, is_binding, bind_row, connect_row, recv_row, push_row, send_row, unbind_row, stat_row}
@@ -12,17 +13,24 @@ use Rattle.port_calls.specs.declared.call.PortCall.TheVariants as call
 use Rattle.port_calls.specs.declared.call.PortReply.{PortReply}
 use Rattle.port_calls.specs.declared.call.PortReply.TheVariants as reply
 
+-- the plain manager's answer to a call of a request
+abbrev pub answered : Request → PortState → PortCall → PortAnswer
+answered r state (call.Bind slot port mode) = bind_row r state (slot_place r.client slot) port mode
+answered r state (call.Recv slot) = recv_row r state (slot_place r.client slot)
+answered r state (call.Connect slot port mode) = connect_row r state (slot_place r.client slot) port mode
+answered r state (call.Push slot piece) = push_row r state (slot_place r.client slot) piece
+answered r state (call.Send port piece) = send_row r state port piece
+answered r state (call.Unbind slot) = unbind_row state (slot_place r.client slot)
+answered r state (call.StatPort port) = stat_row r state port
+
+-- the request of a caller under a policy number and its version
+abbrev pub request_of : Decisions → PortState → ℕ → ℕ → ℕ → Request
+request_of d state caller number version =
+    record { decisions = d; version = version; client = caller; subject = sid_of state caller; number = number }
+
 -- the plain manager's answer to a caller's call under a policy number and its version
 abbrev pub answer : Decisions → PortState → ℕ → PortCall → ℕ → ℕ → PortAnswer
-answer d state caller (call.Bind slot port mode) number version =
-    bind_row d state (sid_of state caller) caller number version (slot_place caller slot) port mode
-answer d state caller (call.Recv slot) number version = recv_row d state (sid_of state caller) number version (slot_place caller slot)
-answer d state caller (call.Connect slot port mode) number version =
-    connect_row d state (sid_of state caller) number version (slot_place caller slot) port mode
-answer d state caller (call.Push slot piece) number version = push_row d state (sid_of state caller) number version (slot_place caller slot) piece
-answer d state caller (call.Send port piece) number version = send_row d state (sid_of state caller) number version port piece
-answer d state caller (call.Unbind slot) number version = unbind_row state (slot_place caller slot)
-answer d state caller (call.StatPort port) number version = stat_row d state (sid_of state caller) number version port
+answer d state caller call number version = answered (request_of d state caller number version) state call
 
 -- the slot that a call uses: recv and push are uses, and no other call is
 abbrev pub use_of : ℕ → PortCall → Option ℕ
@@ -44,16 +52,18 @@ abbrev pub follows_unbound : PortState → ℕ → Option Held → Follows → F
 follows_unbound state place None follows = follows
 follows_unbound state place (Some held) follows = if is_binding held then follows_without state held.port follows else maps.remove follows place
 
--- what the slots follow after a call under a number: a call that fills a slot sets it to the number, and a slot that is free
--- follows nothing
+-- what the slots follow after a call of a request that got this reply: a call that fills a slot sets it to the number, and a
+-- slot that is free follows nothing
+abbrev pub followed_by : Request → PortState → PortCall → PortReply → Follows → Follows
+followed_by r state (call.Bind slot port mode) said follows = when_done said (maps.insert follows (slot_place r.client slot) r.number) follows
+followed_by r state (call.Connect slot port mode) said follows = when_done said (maps.insert follows (slot_place r.client slot) r.number) follows
+followed_by r state (call.Unbind slot) said follows =
+    when_done said (follows_unbound state (slot_place r.client slot) (maps.get state.slots (slot_place r.client slot)) follows) follows
+followed_by r state other said follows = follows
+
+-- the same after a caller's call, which is done under a number and its version
 abbrev pub followed : Decisions → PortState → ℕ → PortCall → ℕ → ℕ → PortReply → Follows → Follows
-followed d state caller (call.Bind slot port mode) number version said follows =
-    when_done said (maps.insert follows (slot_place caller slot) number) follows
-followed d state caller (call.Connect slot port mode) number version said follows =
-    when_done said (maps.insert follows (slot_place caller slot) number) follows
-followed d state caller (call.Unbind slot) number version said follows =
-    when_done said (follows_unbound state (slot_place caller slot) (maps.get state.slots (slot_place caller slot)) follows) follows
-followed d state caller other number version said follows = follows
+followed d state caller call number version said follows = followed_by (request_of d state caller number version) state call said follows
 
 -- the pair of a client and the port that a slot of it holds, if any
 abbrev pub pair_held : PortState → ℕ → Option Held → Option Pair

@@ -7,8 +7,7 @@ use Rattle.std.specs.FinMap.{FinMap}
 use Rattle.access_vectors.specs.Table.{Permission}
 use Rattle.access_vectors.specs.Perms.{port_name_bind, port_recv, port_send, port_getattr}
 use Rattle.access_vectors.specs.Vectors.{has}
-use Rattle.access_vectors.specs.Decisions.{Decisions}
-use Rattle.access_vectors.specs.Asking.{question}
+use Rattle.mode_questions.specs.Requests.{Request}
 use Rattle.port_calls.specs.States.{Bound, Held, PortState, PortAnswer, label_of, with_ports, with_slot, message_limit, byte_limit, asking_whole, saying, asking, after_asking}
 use Rattle.port_calls.specs.declared.call.PortReply.TheVariants as reply
 
@@ -18,40 +17,40 @@ bound_by state client place port mode =
     with_slot (with_ports state (maps.insert state.ports port (record { owner = client; messages = [] }))) place (record { port = port; mode = mode })
 
 -- binding a port, by what is bound there: Taken; each permission of the mode
-abbrev pub bound_at : Decisions → PortState → ℕ → ℕ → ℕ → ℕ → ℕ → ℕ → ℕ → Option Bound → PortAnswer
-bound_at d state s client number version place port mode (Some bound) = saying state reply.Taken
-bound_at d state s client number version place port mode None =
-    after_asking state number (asking_whole d version s (label_of state.opening port) mode)
-    (saying (bound_by state client place port mode) reply.Done)
+abbrev pub bound_at : Request → PortState → ℕ → ℕ → ℕ → Option Bound → PortAnswer
+bound_at r state place port mode (Some bound) = saying state reply.Taken
+bound_at r state place port mode None =
+    after_asking r state (asking_whole r (label_of state.opening port) mode)
+    (saying (bound_by state r.client place port mode) reply.Done)
 
 -- binding through what a place holds: SlotUsed
-abbrev pub bind_into : Decisions → PortState → ℕ → ℕ → ℕ → ℕ → ℕ → ℕ → ℕ → Option Held → PortAnswer
-bind_into d state s client number version place port mode (Some held) = saying state reply.SlotUsed
-bind_into d state s client number version place port mode None =
-    bound_at d state s client number version place port mode (maps.get state.ports port)
+abbrev pub bind_into : Request → PortState → ℕ → ℕ → ℕ → Option Held → PortAnswer
+bind_into r state place port mode (Some held) = saying state reply.SlotUsed
+bind_into r state place port mode None =
+    bound_at r state place port mode (maps.get state.ports port)
 
 -- bind: SlotUsed; Taken; each permission of the mode; the port is bound by the caller, and the slot holds it
-abbrev pub bind_row : Decisions → PortState → ℕ → ℕ → ℕ → ℕ → ℕ → ℕ → ℕ → PortAnswer
-bind_row d state s client number version place port mode =
-    bind_into d state s client number version place port mode (maps.get state.slots place)
+abbrev pub bind_row : Request → PortState → ℕ → ℕ → ℕ → PortAnswer
+bind_row r state place port mode =
+    bind_into r state place port mode (maps.get state.slots place)
 
 -- connecting to a port, by what is bound there: NoPort; each permission of the mode
-abbrev pub connected_at : Decisions → PortState → ℕ → ℕ → ℕ → ℕ → ℕ → ℕ → Option Bound → PortAnswer
-connected_at d state s number version place port mode None = saying state reply.NoPort
-connected_at d state s number version place port mode (Some bound) =
-    after_asking state number (asking_whole d version s (label_of state.opening port) mode)
+abbrev pub connected_at : Request → PortState → ℕ → ℕ → ℕ → Option Bound → PortAnswer
+connected_at r state place port mode None = saying state reply.NoPort
+connected_at r state place port mode (Some bound) =
+    after_asking r state (asking_whole r (label_of state.opening port) mode)
     (saying (with_slot state place (record { port = port; mode = mode })) reply.Done)
 
 -- connecting through what a place holds: SlotUsed
-abbrev pub connect_into : Decisions → PortState → ℕ → ℕ → ℕ → ℕ → ℕ → ℕ → Option Held → PortAnswer
-connect_into d state s number version place port mode (Some held) = saying state reply.SlotUsed
-connect_into d state s number version place port mode None =
-    connected_at d state s number version place port mode (maps.get state.ports port)
+abbrev pub connect_into : Request → PortState → ℕ → ℕ → ℕ → Option Held → PortAnswer
+connect_into r state place port mode (Some held) = saying state reply.SlotUsed
+connect_into r state place port mode None =
+    connected_at r state place port mode (maps.get state.ports port)
 
 -- connect: SlotUsed; NoPort; each permission of the mode; the slot holds the port
-abbrev pub connect_row : Decisions → PortState → ℕ → ℕ → ℕ → ℕ → ℕ → ℕ → PortAnswer
-connect_row d state s number version place port mode =
-    connect_into d state s number version place port mode (maps.get state.slots place)
+abbrev pub connect_row : Request → PortState → ℕ → ℕ → ℕ → PortAnswer
+connect_row r state place port mode =
+    connect_into r state place port mode (maps.get state.slots place)
 
 -- what is done with the port of a slot: a slot whose port is not bound is as good as free
 abbrev pub with_bound : PortState → Option Bound → (Bound → PortAnswer) → PortAnswer
@@ -60,12 +59,12 @@ with_bound state (Some bound) rest = rest bound
 
 -- a use of what a place holds, which needs this permission: BadSlot; BadMode where the mode lacks it; each permission of the
 -- mode on the port's label
-abbrev pub used : Decisions → PortState → ℕ → ℕ → ℕ → Permission → Option Held → (ℕ → Bound → PortAnswer) → PortAnswer
-used d state s number version perm None rest = saying state reply.BadSlot
-used d state s number version perm (Some held) rest =
+abbrev pub used : Request → PortState → Permission → Option Held → (ℕ → Bound → PortAnswer) → PortAnswer
+used r state perm None rest = saying state reply.BadSlot
+used r state perm (Some held) rest =
     if has held.mode perm.index
     then with_bound state (maps.get state.ports held.port)
-    (λ bound. after_asking state number (asking_whole d version s (label_of state.opening held.port) held.mode) (rest held.port bound))
+    (λ bound. after_asking r state (asking_whole r (label_of state.opening held.port) held.mode) (rest held.port bound))
     else saying state reply.BadMode
 
 -- the port has other messages
@@ -78,9 +77,9 @@ received state port bound [] = saying state reply.Empty
 received state port bound (message ∷ messages) = saying (with_messages state port bound messages) (reply.Bytes message)
 
 -- recv: BadSlot; BadMode; each permission of the mode; Empty; the oldest message goes out
-abbrev pub recv_row : Decisions → PortState → ℕ → ℕ → ℕ → ℕ → PortAnswer
-recv_row d state s number version place =
-    used d state s number version port_recv (maps.get state.slots place) (λ port bound. received state port bound bound.messages)
+abbrev pub recv_row : Request → PortState → ℕ → PortAnswer
+recv_row r state place =
+    used r state port_recv (maps.get state.slots place) (λ port bound. received state port bound bound.messages)
 
 -- a message is to wait at a port: TooBig; Full; it is the newest
 abbrev pub sent : PortState → ℕ → Bound → List ℕ → PortAnswer
@@ -90,9 +89,9 @@ sent state port bound message =
     else saying state reply.Full
 
 -- push: BadSlot; BadMode; each permission of the mode; TooBig; Full; the message is the newest at the port
-abbrev pub push_row : Decisions → PortState → ℕ → ℕ → ℕ → ℕ → List ℕ → PortAnswer
-push_row d state s number version place message =
-    used d state s number version port_send (maps.get state.slots place) (λ port bound. sent state port bound message)
+abbrev pub push_row : Request → PortState → ℕ → List ℕ → PortAnswer
+push_row r state place message =
+    used r state port_send (maps.get state.slots place) (λ port bound. sent state port bound message)
 
 -- what is done with a port that has to be bound: NoPort
 abbrev pub with_port : PortState → Option Bound → (Bound → PortAnswer) → PortAnswer
@@ -100,10 +99,10 @@ with_port state None rest = saying state reply.NoPort
 with_port state (Some bound) rest = rest bound
 
 -- send: NoPort; send on the port; TooBig; Full; the message is the newest at the port
-abbrev pub send_row : Decisions → PortState → ℕ → ℕ → ℕ → ℕ → List ℕ → PortAnswer
-send_row d state s number version port message =
+abbrev pub send_row : Request → PortState → ℕ → List ℕ → PortAnswer
+send_row r state port message =
     with_port state (maps.get state.ports port)
-    (λ bound. asking state number (question d version s (label_of state.opening port) port_send) (sent state port bound message))
+    (λ bound. asking r state (label_of state.opening port) port_send (sent state port bound message))
 
 -- the slot holds the port
 abbrev pub is_on_port : ℕ → Option Held → Bool
@@ -136,8 +135,8 @@ abbrev pub unbind_row : PortState → ℕ → PortAnswer
 unbind_row state place = unbound_at state place (maps.get state.slots place)
 
 -- stat: NoPort; getattr on the port; its label, and how many messages wait
-abbrev pub stat_row : Decisions → PortState → ℕ → ℕ → ℕ → ℕ → PortAnswer
-stat_row d state s number version port =
+abbrev pub stat_row : Request → PortState → ℕ → PortAnswer
+stat_row r state port =
     with_port state (maps.get state.ports port)
-    (λ bound. asking state number (question d version s (label_of state.opening port) port_getattr)
+    (λ bound. asking r state (label_of state.opening port) port_getattr
     (saying state (reply.Stat (label_of state.opening port) (length bound.messages))))

@@ -1,15 +1,14 @@
 -- The state of the plain port manager, and how its answers are put together.
-use Rattle.std.specs.Prelude.{ℕ, ◌==◌, List, [], ◌∷◌, slice_index, All, IsTrue, Option, Some, None, if◌then◌else◌}
+use Rattle.std.specs.Prelude.{ℕ, ◌==◌, List, [], ◌∷◌, slice_index, All, IsTrue, if◌then◌else◌}
 use Rattle.std.specs.Ordering.{nat_cmp}
 use Rattle.std.specs.FinMap as maps
 use Rattle.std.specs.FinMap.{FinMap}
 use Rattle.access_vectors.specs.Table.{Permission}
 use Rattle.access_vectors.specs.Perms.{port_name_bind, port_recv, port_send, port_connect}
 use Rattle.access_vectors.specs.Decisions.{Decisions}
-use Rattle.access_vectors.specs.declared.asked.Asked.{Asked}
 use Rattle.manager_history.specs.Answers.{Answer}
-use Rattle.mode_questions.specs.Answering as answering
-use Rattle.mode_questions.specs.Answering.{Asking, asking_mode}
+use Rattle.mode_questions.specs.Requests as requests
+use Rattle.mode_questions.specs.Requests.{Request, Asking, asking_mode}
 use Rattle.port_calls.specs.declared.opening.LabelledPort.{LabelledPort}
 use Rattle.port_calls.specs.declared.opening.PortOpening.{PortOpening}
 use Rattle.port_calls.specs.declared.call.PortReply.{PortReply}
@@ -77,17 +76,17 @@ abbrev pub mode_perms : List Permission
 mode_perms = port_name_bind ∷ port_recv ∷ port_send ∷ port_connect ∷ []
 
 -- what comes of asking the whole of a mode
-abbrev pub asking_whole : Decisions → ℕ → ℕ → ℕ → ℕ → Asking
-asking_whole d version s t mode = asking_mode d version s t mode mode_perms
+abbrev pub asking_whole : Request → ℕ → ℕ → Asking
+asking_whole r t mode = asking_mode r t mode mode_perms
 
 -- a reply that asks nothing more, in a state
 abbrev pub saying : PortState → PortReply → PortAnswer
-saying state said = answering.saying state said
+saying state said = requests.saying state said
 
 -- a question first: where it is denied that is the reply, and nothing else is done
-abbrev pub asking : PortState → ℕ → Asked → PortAnswer → PortAnswer
-asking state number asked rest = answering.asking reply.Denied state number asked rest
+abbrev pub asking : Request → PortState → ℕ → Permission → PortAnswer → PortAnswer
+asking r state t perm rest = requests.asking reply.Denied r state t perm rest
 
 -- what is done where no permission of the mode was denied
-abbrev pub after_asking : PortState → ℕ → Asking → PortAnswer → PortAnswer
-after_asking state number asking rest = answering.after_asking reply.Denied state number asking rest
+abbrev pub after_asking : Request → PortState → Asking → PortAnswer → PortAnswer
+after_asking r state asking rest = requests.after_asking reply.Denied r state asking rest

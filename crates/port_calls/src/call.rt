@@ -1,3 +1,5 @@
+//! What the port manager is asked, and what it answers.
+
 use access_vectors::{Perm, Vector};
 use flask_sid::{Piece, Sid};
 

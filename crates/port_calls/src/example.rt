@@ -1,3 +1,5 @@
+//! A first day of two clients and one port, on which the plain manager can be looked up.
+
 ghost use Rattle.std.specs.Prelude.{◌≡◌, IfOk};
 ghost use Rattle.port_calls.specs.Example.{AnswersOfDay, one_port_opening};
 

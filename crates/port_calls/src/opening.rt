@@ -1,3 +1,5 @@
+//! What a port manager is opened with.
+
 use flask_sid::{Rows, Sid};
 
 /// A port with a label of its own.

@@ -1,72 +1,98 @@
-ghost use Rattle.std.specs.Prelude.{◌≡◌, ◌<◌, [], length, IfOk, OnOk};
-ghost use Rattle.std.specs.FinMap as maps;
-ghost use Rattle.access_vectors.specs.Asking.{with_keys_of};
-ghost use Rattle.access_vectors.specs.Phases.{version_at, MayName};
-ghost use Rattle.access_vectors.specs.Stale.{slot_place};
-ghost use Rattle.port_calls.specs.Plain.{when_done};
-ghost use Rattle.port_calls.specs.Rows.{bind_row};
-ghost use Rattle.port_calls.specs.States.{sid_of};
-ghost use Rattle.port_store.specs.Stores.{IsMode, Safe, state_of, follows};
-ghost use Rattle.port_manager.specs.Serving.{Serves};
+//! Binding a port through a free slot, and connecting one to a port that is bound.
 
-use crate::replies::denied;
-use crate::uses::MODE_PERMS;
-use access_vectors::{Asker, Questions, Vector};
+ghost use Rattle.std.specs.Prelude.{◌≡◌, IsTrue};
+ghost use Rattle.std.specs.FinMap as maps;
+ghost use Rattle.access_vectors.specs.Stale.{slot_place};
+ghost use Rattle.mode_questions.specs.Operations.{request};
+ghost use Rattle.port_calls.specs.Rows.{bind_row, connect_row};
+ghost use Rattle.port_calls.specs.States.{label_of};
+ghost use Rattle.port_store.specs.Stores.{IsMode, state_of, follows};
+ghost use Rattle.port_manager.specs.Serving.{MayServe, ServesSlots};
+
+use crate::replies::{both, denied};
+use crate::slots::MODE_PERMS;
+use access_vectors::{Asker, Vector};
 use flask_sid::Memory;
-use mode_questions::ask_mode;
+use mode_questions::{Doubled, Operation};
 use port_calls::PortReply;
 use port_store::{Filling, Ports};
 use retained_rights::Callback;
-use std::alloc::Global;
 
 /// Binds a port to the caller through a free slot of it.
 pub fn bind<F: Callback, A: Asker>(
     ports: &mut Ports<F>,
-    alloc: Global,
-    caller: u8,
+    operation: &mut Operation<A>,
     slot: u8,
     port: u32,
     mode: Vector,
-    number: u32,
-    asker: &mut A,
-    asked: &mut Questions,
-) -> Result<(PortReply, PortReply), Memory>
-    requires safe { Safe (A.decides asker.old) ports.old }
-    requires caller { caller < length ports.old.opening.clients }
+) -> Result<Doubled<PortReply>, Memory>
+    requires may { MayServe ports.old (request operation.old) }
     requires mode { IsMode mode }
-    requires named { MayName ports.old.rights.phase number }
-    requires version { A.version asker.old ≡ version_at ports.old.rights.phase number }
-    requires none { asked.old ≡ [] }
-    ensures serves { Serves result ports.old ports.new asked.new
-        (bind_row (A.decides asker.old) (state_of ports.old) (sid_of (state_of ports.old) caller) caller number (A.version asker.old) (slot_place caller slot) port mode) }
-    ensures follows { IfOk result (λ replies. follows ports.new
-        ≡ when_done replies.0 (maps.insert (follows ports.old) (slot_place caller slot) number) (follows ports.old)) }
-    ensures keys { OnOk result (A.keys asker.new ≡ with_keys_of (A.keys asker.old) asked.new) }
-    ensures safe { Safe (A.decides asker.old) ports.new }
-    ensures opening { ports.new.opening ≡ ports.old.opening }
-    ensures phase { ports.new.rights.phase ≡ ports.old.rights.phase }
-    ensures same { A.same asker.old asker.new }
-    ensures decides { A.decides asker.new ≡ A.decides asker.old }
-    ensures at_version { A.version asker.new ≡ A.version asker.old }
+    ensures { let r = request operation.old in let place = slot_place r.client slot in
+        ServesSlots (maps.insert (follows ports.old) place r.number) result ports.old ports.new operation.old operation.new
+        (bind_row r (state_of ports.old) place port mode) }
 {
-    if let Some(_usable) = ports.slot_use(caller, slot) {
-        return Ok((PortReply::SlotUsed, PortReply::SlotUsed));
+    let caller = operation.caller;
+    if let Some(_usable) = ports.slot_use(caller.client, slot) {
+        return Ok(both(PortReply::SlotUsed));
     }
     if let Some(_queue) = ports.bound(port) {
-        return Ok((PortReply::Taken, PortReply::Taken));
+        return Ok(both(PortReply::Taken));
     }
-    let s = ports.sid(caller);
-    let t = ports.label(port);
-    if let Some(perm) = ask_mode(asker, asked, s, t, mode, &MODE_PERMS)? {
-        return Ok(denied(perm, number));
+    let filling = filling(ports, operation, port, mode);
+    if let Some(perm) = operation.ask_mode(filling.s, filling.t, mode, &MODE_PERMS)? {
+        return Ok(denied(perm, caller.number));
     }
-    let filling = Filling {
-        port,
-        s,
-        t,
-        mode,
-        number,
+    ports.bind(caller.alloc, caller.client, slot, filling, operation.asker)?;
+    Ok(both(PortReply::Done))
+}
+
+/// Connects a free slot of the caller to a bound port.
+pub fn connect<F: Callback, A: Asker>(
+    ports: &mut Ports<F>,
+    operation: &mut Operation<A>,
+    slot: u8,
+    port: u32,
+    mode: Vector,
+) -> Result<Doubled<PortReply>, Memory>
+    requires may { MayServe ports.old (request operation.old) }
+    requires mode { IsMode mode }
+    ensures { let r = request operation.old in let place = slot_place r.client slot in
+        ServesSlots (maps.insert (follows ports.old) place r.number) result ports.old ports.new operation.old operation.new
+        (connect_row r (state_of ports.old) place port mode) }
+{
+    let caller = operation.caller;
+    if let Some(_usable) = ports.slot_use(caller.client, slot) {
+        return Ok(both(PortReply::SlotUsed));
+    }
+    let Some(_queue) = ports.bound(port) else {
+        return Ok(both(PortReply::NoPort));
     };
-    ports.bind(alloc, caller, slot, filling, asker)?;
-    Ok((PortReply::Done, PortReply::Done))
+    let filling = filling(ports, operation, port, mode);
+    if let Some(perm) = operation.ask_mode(filling.s, filling.t, mode, &MODE_PERMS)? {
+        return Ok(denied(perm, caller.number));
+    }
+    ports.connect(caller.client, slot, filling, operation.asker)?;
+    Ok(both(PortReply::Done))
+}
+
+/// What a slot of the caller is filled with for a port.
+fn filling<F: Callback, A: Asker>(
+    ports: &Ports<F>,
+    operation: &Operation<A>,
+    port: u32,
+    mode: Vector,
+) -> Filling
+    requires { MayServe ports.now (request operation.now) }
+    ensures filling { let r = request operation.now in
+        result ≡ record { port = port; s = r.subject; t = label_of ports.now.opening port; mode = mode; number = r.number } }
+    ensures known { IsTrue ((request operation.now).decisions.known result.t) }
+{
+    Filling {
+        port,
+        s: operation.caller.subject,
+        t: ports.label(port),
+        mode,
+        number: operation.caller.number,
+    }
 }

@@ -6,14 +6,14 @@
 #![tactic(auto)]
 
 mod binds;
-mod connects;
 mod port_core;
 mod receives;
 mod replies;
 mod sends;
+mod serving;
+mod slots;
 mod stats;
 mod unbinds;
-mod uses;
 
 pub use port_calls::{LabelledPort, PortCall, PortOpening, PortReply};
 pub use port_core::{PortCore, new};

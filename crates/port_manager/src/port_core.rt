@@ -1,3 +1,5 @@
+//! The port manager as a core of histories.
+
 ghost use Rattle.std.specs.Prelude.{◌≡◌, ◌<◌, []};
 ghost use Rattle.std.specs.FinMap as maps;
 ghost use Rattle.access_vectors.specs.Decisions.{Decisions};
@@ -7,15 +9,11 @@ ghost use Rattle.retained_rights.specs.declared.rule.Rule.{Rule};
 ghost use Rattle.port_calls.specs.States.{IsOpening, opened_with};
 ghost use Rattle.port_store.specs.Stores.{Safe, state_of, follows};
 
-use crate::binds::bind;
-use crate::connects::connect;
-use crate::receives::recv;
-use crate::sends::{push, send};
-use crate::stats::stat;
-use crate::unbinds::unbind;
+use crate::serving::serve;
 use access_vectors::{Asker, Decider, Questions, Steps};
 use flask_sid::Memory;
 use manager_history::Core;
+use mode_questions::{Caller, Operation};
 use port_calls::{PortCall, PortOpening, PortReply};
 use port_store::Ports;
 use retained_rights::Callback;
@@ -106,38 +104,15 @@ impl<F: Callback> Core for PortCore<F> {
         asker: &mut A,
         asked: &mut Questions,
     ) -> Result<(PortReply, PortReply), Memory> {
-        let ports = &mut self.ports;
-        match call {
-            PortCall::Bind { slot, port, mode } => bind(
-                ports, alloc, caller, *slot, *port, *mode, number, asker, asked,
-            ),
-            PortCall::Recv { slot } => recv(ports, alloc, caller, *slot, number, asker, asked),
-            PortCall::Connect { slot, port, mode } => {
-                connect(ports, caller, *slot, *port, *mode, number, asker, asked)
-            }
-            PortCall::Push { slot, piece } => push(
-                ports,
-                alloc,
-                caller,
-                *slot,
-                piece.as_bytes(),
-                number,
-                asker,
-                asked,
-            ),
-            PortCall::Send { port, piece } => send(
-                ports,
-                alloc,
-                caller,
-                *port,
-                piece.as_bytes(),
-                number,
-                asker,
-                asked,
-            ),
-            PortCall::Unbind { slot } => Ok(unbind(ports, caller, *slot)),
-            PortCall::StatPort { port } => stat(ports, caller, *port, number, asker, asked),
-        }
+        let caller = Caller::new(alloc, caller, self.ports.sid(caller), number, asker);
+        let mut operation = Operation::new(&caller, asker, asked);
+        let served = serve(&mut self.ports, &mut operation, call);
+        let Operation {
+            caller: _,
+            asker: _,
+            asked: _,
+        } = operation;
+        Ok(served?.pair())
     }
 
     fn start<D: Decider>(

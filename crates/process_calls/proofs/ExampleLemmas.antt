@@ -4,7 +4,7 @@ use Rattle.std.specs.Prelude.{nat_lt, if◌then◌else◌}
 use Rattle.std.specs.FinMap as maps
 use Rattle.std.specs.Ordering.{nat_cmp}
 use Rattle.std.specs.Cmp.{nat_cmp_total}
-use Rattle.access_vectors.specs.Asking.{question}
+use Rattle.mode_questions.specs.Requests.{Request}
 use Rattle.access_vectors.specs.Perms.{process_fork, process_ptrace, process_getattr}
 use Rattle.access_vectors.specs.Vectors.{has}
 use Rattle.access_vectors.specs.declared.asked.Asked.{Asked}
@@ -13,7 +13,7 @@ use Rattle.process_calls.specs.declared.call.ProcessReply.{ProcessReply}
 use Rattle.process_calls.specs.declared.call.ProcessReply.TheVariants.{Done, Num, Denied, TooMany}
 use Rattle.process_calls.specs.States.{ProcessState, ProcessAnswer, opened_with, with_process, with_slots, process_limit, asking_attach, saying, asking, after_asking, with_found, while_running}
 use Rattle.process_calls.specs.Rows.{started, becoming, started_at, attached_at, with_attached, used}
-use Rattle.process_calls.specs.Plain.{answer}
+use Rattle.process_calls.specs.Plain.{answer, request_of}
 use Rattle.process_calls.specs.Example.{AnswersOfDay, one_client_opening, day_decisions, day_fork, day_attach, day_peek, forked_state, attached_state}
 
 -- the process, and the states that the fork and the attach leave
@@ -45,9 +45,13 @@ mode_asked = record { s = 1; t = 1; perm = process_ptrace; yes = true } ∷ reco
 abbrev half_asked : List Asked
 half_asked = record { s = 1; t = 1; perm = process_ptrace; yes = true } ∷ record { s = 1; t = 1; perm = process_getattr; yes = false } ∷ []
 
+-- the client's request in a state, under a number whose version is the same
+abbrev asks : ProcessState → ℕ → Request
+asks state number = request_of day_decisions state 0 number number
+
 -- the fork, by what stands at its number, and then by how many processes there are
 abbrev fork_then : ProcessAnswer → ProcessAnswer
-fork_then rest = asking opened 0 (question day_decisions 0 1 1 process_fork) (becoming day_decisions opened 1 0 0 1 1 rest)
+fork_then rest = asking (asks opened 0) opened 1 process_fork (becoming (asks opened 0) opened 1 1 rest)
 
 abbrev fork_by_count : ℕ → ProcessAnswer
 fork_by_count count =
@@ -64,21 +68,21 @@ abbrev attach_by_process : Option Process → ProcessAnswer
 attach_by_process found =
     with_found forked found
     (λ process. while_running forked process.ended
-    (after_asking forked 0 (asking_attach day_decisions 0 1 process.label) (saying (with_slots forked (maps.insert forked.slots 5 7)) Done)))
+    (after_asking (asks forked 0) forked (asking_attach (asks forked 0) process.label) (saying (with_slots forked (maps.insert forked.slots 5 7)) Done)))
 
 attach_is : answer day_decisions forked 0 day_attach 0 0 ≡ record { reply = Done; state = attached; asked = mode_asked }
 unfolding has
 attach_is =
-    ap (attached_at day_decisions forked 1 0 0 5 7) (maps.get-empty nat_cmp 5) ∙ ap attach_by_process process_is
+    ap (attached_at (asks forked 0) forked 5 7) (maps.get-empty nat_cmp 5) ∙ ap attach_by_process process_is
 
 -- a peek, by what the slot holds, and then by what stands at the process's number
 abbrev peek_by_slot : ℕ → Option ℕ → ProcessAnswer
-peek_by_slot number held = used day_decisions attached 1 number number held (λ pid process. saying attached (Num process.register))
+peek_by_slot number held = used (asks attached number) attached held (λ pid process. saying attached (Num process.register))
 
 abbrev peek_by_process : ℕ → Option Process → ProcessAnswer
 peek_by_process number found =
     with_attached attached found
-    (λ process. after_asking attached number (asking_attach day_decisions number 1 process.label)
+    (λ process. after_asking (asks attached number) attached (asking_attach (asks attached number) process.label)
     (while_running attached process.ended (saying attached (Num process.register))))
 
 allowed_is : answer day_decisions attached 0 day_peek 0 0 ≡ record { reply = Num 0; state = attached; asked = mode_asked }

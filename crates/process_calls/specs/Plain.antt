@@ -5,6 +5,7 @@ use Rattle.access_vectors.specs.Decisions.{Decisions}
 use Rattle.access_vectors.specs.Mapped.{mapped}
 use Rattle.access_vectors.specs.Stale.{Follows, Pair, slot_place}
 use Rattle.manager_history.specs.Answers.{Denial}
+use Rattle.mode_questions.specs.Requests.{Request}
 use Rattle.process_calls.specs.Formed.{IsCall}
 use Rattle.process_calls.specs.States.{ProcessState, ProcessAnswer, sid_of}
 use Rattle.process_calls.specs.Rows.{is_attached_to, fork_row, exec_row, signal_row, exit_row, wait_row, attach_row, peek_row, poke_row, detach_row, stat_row}
@@ -14,18 +15,27 @@ use Rattle.process_calls.specs.declared.call.ProcessCall.TheVariants as call
 use Rattle.process_calls.specs.declared.call.ProcessReply.{ProcessReply}
 use Rattle.process_calls.specs.declared.call.ProcessReply.TheVariants as reply
 
+-- the plain manager's answer to a call of a request
+abbrev pub answered : Request → ProcessState → ProcessCall → ProcessAnswer
+answered r state (call.Fork pid) = fork_row r state pid
+answered r state (call.Exec pid sid) = exec_row r state pid sid
+answered r state (call.Signal pid signal) = signal_row r state pid signal
+answered r state (call.Exit pid code) = exit_row r state pid code
+answered r state (call.Wait pid) = wait_row r state pid
+answered r state (call.Attach slot pid) = attach_row r state (slot_place r.client slot) pid
+answered r state (call.Peek slot) = peek_row r state (slot_place r.client slot)
+answered r state (call.Poke slot value) = poke_row r state (slot_place r.client slot) value
+answered r state (call.Detach slot) = detach_row state (slot_place r.client slot)
+answered r state (call.StatProcess pid) = stat_row r state pid
+
+-- the request of a caller under a policy number and its version
+abbrev pub request_of : Decisions → ProcessState → ℕ → ℕ → ℕ → Request
+request_of d state caller number version =
+    record { decisions = d; version = version; client = caller; subject = sid_of state caller; number = number }
+
 -- the plain manager's answer to a caller's call under a policy number and its version
 abbrev pub answer : Decisions → ProcessState → ℕ → ProcessCall → ℕ → ℕ → ProcessAnswer
-answer d state caller (call.Fork pid) number version = fork_row d state (sid_of state caller) caller number version pid
-answer d state caller (call.Exec pid sid) number version = exec_row d state (sid_of state caller) caller number version pid sid
-answer d state caller (call.Signal pid signal) number version = signal_row d state (sid_of state caller) number version pid signal
-answer d state caller (call.Exit pid code) number version = exit_row d state (sid_of state caller) caller number version pid code
-answer d state caller (call.Wait pid) number version = wait_row d state (sid_of state caller) caller number version pid
-answer d state caller (call.Attach slot pid) number version = attach_row d state (sid_of state caller) number version (slot_place caller slot) pid
-answer d state caller (call.Peek slot) number version = peek_row d state (sid_of state caller) number version (slot_place caller slot)
-answer d state caller (call.Poke slot value) number version = poke_row d state (sid_of state caller) number version (slot_place caller slot) value
-answer d state caller (call.Detach slot) number version = detach_row state (slot_place caller slot)
-answer d state caller (call.StatProcess pid) number version = stat_row d state (sid_of state caller) number version pid
+answer d state caller call number version = answered (request_of d state caller number version) state call
 
 -- the slot that a call uses: peek and poke are uses, and no other call is
 abbrev pub use_of : ℕ → ProcessCall → Option ℕ
@@ -51,14 +61,18 @@ follows_without state pid follows = maps.retain_keys follows (λ place. not (is_
 abbrev pub follows_moved : ProcessState → ℕ → ℕ → Follows → Follows
 follows_moved state pid number follows = mapped (λ place before. if is_attached_to pid (maps.get state.slots place) then number else before) follows
 
--- what the slots follow after a call under a number: a call that fills a slot or gives a process its label, also the one
--- that it has, sets it to the number, and a slot that is free follows nothing
+-- what the slots follow after a call of a request that got this reply: a call that fills a slot or gives a process its label,
+-- also the one that it has, sets it to the number, and a slot that is free follows nothing
+abbrev pub followed_by : Request → ProcessState → ProcessCall → ProcessReply → Follows → Follows
+followed_by r state (call.Attach slot pid) said follows = when_done said (maps.insert follows (slot_place r.client slot) r.number) follows
+followed_by r state (call.Detach slot) said follows = when_done said (maps.remove follows (slot_place r.client slot)) follows
+followed_by r state (call.Exec pid sid) said follows = when_done said (follows_moved state pid r.number follows) follows
+followed_by r state (call.Wait pid) said follows = when_told said (follows_without state pid follows) follows
+followed_by r state other said follows = follows
+
+-- the same after a caller's call, which is done under a number and its version
 abbrev pub followed : Decisions → ProcessState → ℕ → ProcessCall → ℕ → ℕ → ProcessReply → Follows → Follows
-followed d state caller (call.Attach slot pid) number version said follows = when_done said (maps.insert follows (slot_place caller slot) number) follows
-followed d state caller (call.Detach slot) number version said follows = when_done said (maps.remove follows (slot_place caller slot)) follows
-followed d state caller (call.Exec pid sid) number version said follows = when_done said (follows_moved state pid number follows) follows
-followed d state caller (call.Wait pid) number version said follows = when_told said (follows_without state pid follows) follows
-followed d state caller other number version said follows = follows
+followed d state caller call number version said follows = followed_by (request_of d state caller number version) state call said follows
 
 -- the pair of a source and a process, if there is one
 abbrev pub pair_on : ℕ → Option Process → Option Pair

@@ -6,10 +6,9 @@ use Rattle.std.specs.FinMap.{FinMap}
 use Rattle.access_vectors.specs.Table.{Permission}
 use Rattle.access_vectors.specs.Perms.{process_ptrace, process_getattr}
 use Rattle.access_vectors.specs.Decisions.{Decisions}
-use Rattle.access_vectors.specs.declared.asked.Asked.{Asked}
 use Rattle.manager_history.specs.Answers.{Answer}
-use Rattle.mode_questions.specs.Answering as answering
-use Rattle.mode_questions.specs.Answering.{Asking, asking_mode}
+use Rattle.mode_questions.specs.Requests as requests
+use Rattle.mode_questions.specs.Requests.{Request, Asking, asking_mode}
 use Rattle.process_calls.specs.declared.opening.ProcessOpening.{ProcessOpening}
 use Rattle.process_calls.specs.declared.process.Process.{Process}
 use Rattle.process_calls.specs.declared.call.ProcessReply.{ProcessReply}
@@ -62,21 +61,21 @@ attach_mode = 72
 abbrev pub attach_perms : List Permission
 attach_perms = process_ptrace ∷ process_getattr ∷ []
 
--- what comes of asking whether s may attach to a process of label t
-abbrev pub asking_attach : Decisions → ℕ → ℕ → ℕ → Asking
-asking_attach d version s t = asking_mode d version s t attach_mode attach_perms
+-- what comes of asking whether the subject may attach to a process of label t
+abbrev pub asking_attach : Request → ℕ → Asking
+asking_attach r t = asking_mode r t attach_mode attach_perms
 
 -- a reply that asks nothing more, in a state
 abbrev pub saying : ProcessState → ProcessReply → ProcessAnswer
-saying state said = answering.saying state said
+saying state said = requests.saying state said
 
 -- a question first: where it is denied that is the reply, and nothing else is done
-abbrev pub asking : ProcessState → ℕ → Asked → ProcessAnswer → ProcessAnswer
-asking state number asked rest = answering.asking reply.Denied state number asked rest
+abbrev pub asking : Request → ProcessState → ℕ → Permission → ProcessAnswer → ProcessAnswer
+asking r state t perm rest = requests.asking reply.Denied r state t perm rest
 
 -- what is done where no permission of the mode was denied
-abbrev pub after_asking : ProcessState → ℕ → Asking → ProcessAnswer → ProcessAnswer
-after_asking state number asking rest = answering.after_asking reply.Denied state number asking rest
+abbrev pub after_asking : Request → ProcessState → Asking → ProcessAnswer → ProcessAnswer
+after_asking r state asking rest = requests.after_asking reply.Denied r state asking rest
 
 -- what is done with a process that is looked up: NoProcess where there is none
 abbrev pub with_found : ProcessState → Option Process → (Process → ProcessAnswer) → ProcessAnswer

@@ -1,3 +1,5 @@
+//! What the process manager is asked, and what it answers.
+
 use access_vectors::Perm;
 use flask_sid::Sid;
 

@@ -1,3 +1,5 @@
+//! A first day of one client and one process, on which the plain manager can be looked up.
+
 ghost use Rattle.std.specs.Prelude.{◌≡◌, IfOk};
 ghost use Rattle.process_calls.specs.Example.{AnswersOfDay, one_client_opening};
 

@@ -1,3 +1,5 @@
+//! What a process manager is opened with.
+
 use flask_sid::{Rows, Sid};
 
 /// What a process manager is opened with. No process runs then.

@@ -1,3 +1,5 @@
+//! Processes.
+
 use flask_sid::Sid;
 
 /// A process, which runs or has ended.

@@ -1,15 +1,16 @@
-ghost use Rattle.std.specs.Prelude.{◌≡◌, ◌<◌, [], length, OnOk};
-ghost use Rattle.access_vectors.specs.Asking.{with_keys_of};
-ghost use Rattle.access_vectors.specs.Phases.{version_at, MayName};
+//! Signals, and the end of a process.
+
+ghost use Rattle.std.specs.Prelude.{◌≡◌};
+ghost use Rattle.mode_questions.specs.Operations.{request};
 ghost use Rattle.process_calls.specs.Rows;
-ghost use Rattle.process_calls.specs.States.{sid_of};
-ghost use Rattle.process_store.specs.Stores.{Safe, state_of, follows};
-ghost use Rattle.process_manager.specs.Serving.{Serves};
+ghost use Rattle.process_store.specs.Stores.{state_of};
+ghost use Rattle.process_manager.specs.Serving.{MayServe, Serves};
 
 use crate::replies::{both, denied};
+use access_vectors::Asker;
 use access_vectors::perms::{PROCESS_EXIT, PROCESS_SIGNAL};
-use access_vectors::{Asker, Questions, ask};
 use flask_sid::Memory;
+use mode_questions::{Doubled, Operation};
 use process_calls::{Process, ProcessReply};
 use process_store::Processes;
 use retained_rights::Callback;
@@ -22,38 +23,22 @@ const KILL_CODE: u32 = 137;
 /// Sends a signal to a process.
 pub fn signal<F: Callback, A: Asker>(
     processes: &mut Processes<F>,
-    caller: u8,
+    operation: &mut Operation<A>,
     pid: u32,
     signal: u32,
-    number: u32,
-    asker: &mut A,
-    asked: &mut Questions,
-) -> Result<(ProcessReply, ProcessReply), Memory>
-    requires safe { Safe (A.decides asker.old) processes.old }
-    requires caller { caller < length processes.old.opening.clients }
-    requires named { MayName processes.old.rights.phase number }
-    requires version { A.version asker.old ≡ version_at processes.old.rights.phase number }
-    requires none { asked.old ≡ [] }
-    ensures serves { Serves result processes.old processes.new asked.new
-        (Rows.signal_row (A.decides asker.old) (state_of processes.old) (sid_of (state_of processes.old) caller) number (A.version asker.old) pid signal) }
-    ensures follows { OnOk result (follows processes.new ≡ follows processes.old) }
-    ensures keys { OnOk result (A.keys asker.new ≡ with_keys_of (A.keys asker.old) asked.new) }
-    ensures safe { Safe (A.decides asker.old) processes.new }
-    ensures opening { processes.new.opening ≡ processes.old.opening }
-    ensures phase { processes.new.rights.phase ≡ processes.old.rights.phase }
-    ensures same { A.same asker.old asker.new }
-    ensures decides { A.decides asker.new ≡ A.decides asker.old }
-    ensures at_version { A.version asker.new ≡ A.version asker.old }
+) -> Result<Doubled<ProcessReply>, Memory>
+    requires { MayServe processes.old (request operation.old) }
+    ensures { let r = request operation.old in
+        Serves result processes.old processes.new operation.old operation.new (Rows.signal_row r (state_of processes.old) pid signal) }
 {
-    let s = processes.sid(caller);
     let Some(process) = processes.process(pid) else {
         return Ok(both(ProcessReply::NoProcess));
     };
     if process.ended.is_some() {
         return Ok(both(ProcessReply::Ended));
     }
-    if !ask(asker, asked, s, process.label, PROCESS_SIGNAL)? {
-        return Ok(denied(PROCESS_SIGNAL, number));
+    if !operation.ask(process.label, PROCESS_SIGNAL)? {
+        return Ok(denied(PROCESS_SIGNAL, operation.caller.number));
     }
     processes.replace(pid, signalled(process, signal));
     Ok(both(ProcessReply::Done))
@@ -62,41 +47,25 @@ pub fn signal<F: Callback, A: Asker>(
 /// Ends a child of the caller with a code.
 pub fn exit<F: Callback, A: Asker>(
     processes: &mut Processes<F>,
-    caller: u8,
+    operation: &mut Operation<A>,
     pid: u32,
     code: u32,
-    number: u32,
-    asker: &mut A,
-    asked: &mut Questions,
-) -> Result<(ProcessReply, ProcessReply), Memory>
-    requires safe { Safe (A.decides asker.old) processes.old }
-    requires caller { caller < length processes.old.opening.clients }
-    requires named { MayName processes.old.rights.phase number }
-    requires version { A.version asker.old ≡ version_at processes.old.rights.phase number }
-    requires none { asked.old ≡ [] }
-    ensures serves { Serves result processes.old processes.new asked.new
-        (Rows.exit_row (A.decides asker.old) (state_of processes.old) (sid_of (state_of processes.old) caller) caller number (A.version asker.old) pid code) }
-    ensures follows { OnOk result (follows processes.new ≡ follows processes.old) }
-    ensures keys { OnOk result (A.keys asker.new ≡ with_keys_of (A.keys asker.old) asked.new) }
-    ensures safe { Safe (A.decides asker.old) processes.new }
-    ensures opening { processes.new.opening ≡ processes.old.opening }
-    ensures phase { processes.new.rights.phase ≡ processes.old.rights.phase }
-    ensures same { A.same asker.old asker.new }
-    ensures decides { A.decides asker.new ≡ A.decides asker.old }
-    ensures at_version { A.version asker.new ≡ A.version asker.old }
+) -> Result<Doubled<ProcessReply>, Memory>
+    requires { MayServe processes.old (request operation.old) }
+    ensures { let r = request operation.old in
+        Serves result processes.old processes.new operation.old operation.new (Rows.exit_row r (state_of processes.old) pid code) }
 {
-    let s = processes.sid(caller);
     let Some(process) = processes.process(pid) else {
         return Ok(both(ProcessReply::NoProcess));
     };
-    if process.parent != caller {
+    if process.parent != operation.caller.client {
         return Ok(both(ProcessReply::NotChild));
     }
     if process.ended.is_some() {
         return Ok(both(ProcessReply::Ended));
     }
-    if !ask(asker, asked, s, process.label, PROCESS_EXIT)? {
-        return Ok(denied(PROCESS_EXIT, number));
+    if !operation.ask(process.label, PROCESS_EXIT)? {
+        return Ok(denied(PROCESS_EXIT, operation.caller.number));
     }
     processes.replace(pid, ended_with(process, code));
     Ok(both(ProcessReply::Done))

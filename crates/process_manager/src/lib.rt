@@ -13,8 +13,9 @@ mod peeks;
 mod pokes;
 mod process_core;
 mod replies;
+mod serving;
+mod slots;
 mod stats;
-mod uses;
 mod waits;
 
 pub use process_calls::{Process, ProcessCall, ProcessOpening, ProcessReply};

@@ -1,3 +1,5 @@
+//! The process manager as a core of histories.
+
 ghost use Rattle.std.specs.Prelude.{◌≡◌, ◌<◌, []};
 ghost use Rattle.std.specs.FinMap as maps;
 ghost use Rattle.access_vectors.specs.Decisions.{Decisions};
@@ -7,17 +9,11 @@ ghost use Rattle.retained_rights.specs.declared.rule.Rule.{Rule};
 ghost use Rattle.process_calls.specs.States.{IsOpening, opened_with};
 ghost use Rattle.process_store.specs.Stores.{Safe, state_of, follows};
 
-use crate::attaches::{attach, detach};
-use crate::ends::{exit, signal};
-use crate::execs::exec;
-use crate::forks::fork;
-use crate::peeks::peek;
-use crate::pokes::poke;
-use crate::stats::stat;
-use crate::waits::wait;
+use crate::serving::serve;
 use access_vectors::{Asker, Decider, Questions, Steps};
 use flask_sid::Memory;
 use manager_history::Core;
+use mode_questions::{Caller, Operation};
 use process_calls::{ProcessCall, ProcessOpening, ProcessReply};
 use process_store::Processes;
 use retained_rights::Callback;
@@ -104,36 +100,22 @@ impl<F: Callback> Core for ProcessCore<F> {
 
     fn call<A: Asker>(
         &mut self,
-        _alloc: Global,
+        alloc: Global,
         caller: u8,
         call: &ProcessCall,
         number: u32,
         asker: &mut A,
         asked: &mut Questions,
     ) -> Result<(ProcessReply, ProcessReply), Memory> {
-        let processes = &mut self.processes;
-        match *call {
-            ProcessCall::Fork { pid } => fork(processes, caller, pid, number, asker, asked),
-            ProcessCall::Exec { pid, sid } => exec(
-                processes, caller, pid, sid, number, asker, asked,
-            ),
-            ProcessCall::Signal { pid, number: sent } => {
-                signal(processes, caller, pid, sent, number, asker, asked)
-            }
-            ProcessCall::Exit { pid, code } => exit(
-                processes, caller, pid, code, number, asker, asked,
-            ),
-            ProcessCall::Wait { pid } => wait(processes, caller, pid, number, asker, asked),
-            ProcessCall::Attach { slot, pid } => {
-                attach(processes, caller, slot, pid, number, asker, asked)
-            }
-            ProcessCall::Peek { slot } => peek(processes, caller, slot, number, asker, asked),
-            ProcessCall::Poke { slot, value } => {
-                poke(processes, caller, slot, value, number, asker, asked)
-            }
-            ProcessCall::Detach { slot } => Ok(detach(processes, caller, slot)),
-            ProcessCall::StatProcess { pid } => stat(processes, caller, pid, number, asker, asked),
-        }
+        let caller = Caller::new(alloc, caller, self.processes.sid(caller), number, asker);
+        let mut operation = Operation::new(&caller, asker, asked);
+        let served = serve(&mut self.processes, &mut operation, call);
+        let Operation {
+            caller: _,
+            asker: _,
+            asked: _,
+        } = operation;
+        Ok(served?.pair())
     }
 
     fn start<D: Decider>(

@@ -1,6 +1,6 @@
 -- What the question whether the managers acknowledge does to a session.
 use Rattle.std.proofs.Common.{◌≡◌, ℕ, Bool, true, false, not, List, [], ◌∷◌, length, Some, refl, sym, ap, ◌∙◌, arith}
-use Rattle.std.specs.Prelude.{slice_get, nat_lt, ◌||◌, if◌then◌else◌}
+use Rattle.std.specs.Prelude.{◌&&◌, slice_get, nat_lt, ◌||◌, if◌then◌else◌}
 use Rattle.std.specs.List.{list_all}
 use Rattle.std.proofs.lemmas.Bool.Decides.{nat_tests}
 use Rattle.access_vectors.specs.Decisions.{Decisions}
@@ -33,7 +33,7 @@ use Rattle.session_desk.specs.Days.{Day, pending_at, ack_on, said_of, all_said, 
 use Rattle.session_desk.specs.One.{Files, Processes, Ports, phase, place_of, decider_of, seen, file_opening, process_opening, port_opening}
 use Rattle.session_desk.specs.Standings.{IsSession, is_whole, day_of}
 use Rattle.session_desk.proofs.AdminLemmas.{acknowledged_post, acknowledged_answer, phase_as}
-use Rattle.session_desk.proofs.NoticeLemmas.{seen_phase, number_at, all_settled}
+use Rattle.session_desk.proofs.NoticeLemmas.{seen_phase, number_at, reached_all, all_settled}
 use Rattle.session_desk.proofs.ThreeLemmas.{AreFiles, AreProcesses, ArePorts, Three, day_is}
 
 -- while a change is pending a manager that is asked does not say that nothing is
@@ -203,7 +203,7 @@ module _ {D : Type 0} (decides : D → Decisions) where
   asked_session : (led after : Led D (OneManager D)) (s : IsSession led) (t : Three led s after.managers) (said : List Said) (all : AckAll) (calls denied changes number old new : ℕ)
       → led.server.phase ≡ Pending number old new → is_whole led ≡ true → IsAskedOf led after said all → IsAckedSession led after said all calls denied changes
   asked_session led after s t said all calls denied changes number old new at whole told =
-      let reached : led.reached ≡ 3 = let test = rw at at whole in grind (arith, nat_tests) in
+      let reached : led.reached ≡ 3 = reached_all decides led s told.was_led (rw at at whole) in
       let there = λ (place : ℕ) (m : OneManager D) (is : slice_get led.managers place ≡ Some m). told.was_led.placed place m is in
       let file_placed = there 0 s.file (ap (λ ms. slice_get ms 0) s.managers_are) in
       let process_placed = there 1 s.process (ap (λ ms. slice_get ms 1) s.managers_are) in
@@ -269,7 +269,7 @@ module _ {D : Type 0} (decides : D → Decisions) where
       pending_of true = refl
       pending_of false = refl
 
-      either : (b : Bool) → (not b || true) ≡ true
+      either : (b : Bool) → not (b && false) ≡ true
       either true = refl
       either false = refl
 

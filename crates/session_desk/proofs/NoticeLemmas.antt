@@ -1,5 +1,5 @@
 -- What a notice does to a session.
-use Rattle.std.proofs.Common.{◌≡◌, ◌<◌, ◌+◌, ℕ, Bool, true, false, length, Option, Some, None, Result, Ok, Err, refl, sym, ap, ◌∙◌, arith}
+use Rattle.std.proofs.Common.{not, ◌≡◌, ◌≤◌, ◌<◌, ◌+◌, ℕ, Bool, true, false, length, Option, Some, None, Result, Ok, Err, refl, sym, ap, ◌∙◌, arith}
 use Rattle.std.specs.Prelude.{slice_get, nat_lt, ◌==◌, ◌&&◌, option_map, is_some, if◌then◌else◌}
 use Rattle.std.proofs.lemmas.Bool.Decides.{nat_tests}
 use Rattle.access_vectors.specs.Decisions.{Decisions}
@@ -27,7 +27,7 @@ use Rattle.port_store.specs.Stores as port_store
 use Rattle.session_desk.specs.declared.one_manager.OneManager.{OneManager}
 use Rattle.session_desk.specs.declared.one_manager.OneManager.TheVariants.{File, Process, Port}
 use Rattle.session_desk.specs.Days.{pending_at, refusal_of, day_notified, with_posts}
-use Rattle.session_desk.specs.Desks.{IsSaid, IsDayUnlessMemory, notified_if}
+use Rattle.session_desk.specs.Desks.{IsSaid, IsDayUnlessMemory, IsWholeUnlessMemory, notified_if}
 use Rattle.session_desk.specs.One.{Files, Processes, Ports, phase, place_of, decider_of, seen, file_opening, process_opening, port_opening}
 use Rattle.session_desk.specs.Standings.{IsSession, is_whole, day_of}
 use Rattle.session_desk.proofs.AdminLemmas.{notified_post, refused_post}
@@ -144,6 +144,7 @@ module _ {D : Type 0} (decides : D → Decisions) where
     pub told : IsSaid said (refusal_of (decides led.server.decider) (day_of led.managers calls denied changes) version) (number_of (day_of led.managers calls denied changes).files.phase + 1)
     pub day : IsDayUnlessMemory said (day_of after.managers calls denied changes) (day_of led.managers calls denied changes) version
         (day_notified (day_of led.managers calls denied changes) version (refusal_of (decides led.server.decider) (day_of led.managers calls denied changes) version))
+    pub whole : IsWholeUnlessMemory said (is_whole after)
 
   -- what the coordinator tells of a round of notices
   pub record IsRoundOf (led after : Led D (OneManager D)) (said : Result ℕ NotifyAllFault) (version : ℕ) : Type 0 where
@@ -156,10 +157,10 @@ module _ {D : Type 0} (decides : D → Decisions) where
 
   -- a choice that is refused leaves all as it was
   refused_session : (led after : Led D (OneManager D)) (s : IsSession led) (said : Result ℕ NotifyAllFault) (version calls denied changes : ℕ) (fault : NotifyFault) → (fault ≡ refusing.Memory → ⊥)
-      → after ≡ led → said ≡ Err (for_all fault) → refusal_of (decides led.server.decider) (day_of led.managers calls denied changes) version ≡ Some fault
+      → after ≡ led → is_whole led ≡ true → said ≡ Err (for_all fault) → refusal_of (decides led.server.decider) (day_of led.managers calls denied changes) version ≡ Some fault
       → IsNotifiedSession led after said version calls denied changes
-  refused_session led after s said version calls denied changes fault told same said_is refusal =
-      rw (same, said_is) (record { session = s; told = rw refusal (at fault told); day = rw refusal (stays fault told) })
+  refused_session led after s said version calls denied changes fault told same whole said_is refusal =
+      rw (same, said_is) (record { session = s; told = rw refusal (at fault told); day = rw refusal (stays fault told); whole = all fault })
     where
       at : (fault : NotifyFault) → (fault ≡ refusing.Memory → ⊥) → IsSaid (Err (for_all fault)) (Some fault) (number_of (day_of led.managers calls denied changes).files.phase + 1)
       at (refusing.Pending number) told = refl
@@ -174,14 +175,26 @@ module _ {D : Type 0} (decides : D → Decisions) where
       stays refusing.Spent told = refl
       stays refusing.Memory told = absurd (told refl)
 
+      all : (fault : NotifyFault) → IsWholeUnlessMemory (Err (for_all fault)) (is_whole led)
+      all (refusing.Pending number) = whole
+      all refusing.NoVersion = whole
+      all refusing.Spent = whole
+      all refusing.Memory = tt
+
   three_of : (led : Led D (OneManager D)) (s : IsSession led) → IsLed decides (seen decides) led → led.server.managers ≡ 3
   three_of led s was_led = sym was_led.registered ∙ ap length s.managers_are
+
+  pub reached_all : (led : Led D (OneManager D)) (s : IsSession led) → IsLed decides (seen decides) led → not (nat_lt led.reached 3) ≡ true → led.reached ≡ 3
+  reached_all led s was_led all =
+      let test : nat_lt led.reached 3 ≡ false = elim (nat_lt led.reached 3) as (λ (b : Bool). not b ≡ true → b ≡ false) [ true ↦ λ is. cc | false ↦ λ is. refl ] all in
+      let few : led.reached ≤ 3 = rw (three_of led s was_led) at was_led.within in
+      grind (arith, nat_tests)
 
   -- while a change is pending
   pub pending_session : (led after : Led D (OneManager D)) (s : IsSession led) (said : Result ℕ NotifyAllFault) (version calls denied changes number old new : ℕ) → led.server.phase ≡ Pending number old new
       → is_whole led ≡ true → IsRoundOf led after said version → IsNotifiedSession led after said version calls denied changes
   pending_session led after s said version calls denied changes number old new at whole round =
-      let reached : led.reached ≡ 3 = let test = rw at at whole in grind (arith, nat_tests) in
+      let reached : led.reached ≡ 3 = reached_all led s round.was_led (rw at at whole) in
       let managers = three_of led s round.was_led in
       let full : nat_lt led.reached led.server.managers ≡ false = rw (reached, managers) refl in
       let none : goes_on led.server led.reached new version ≡ false = rw full (elim (new == version) as (λ (b : Bool). (b && false) ≡ false) [ true ↦ refl | false ↦ refl ]) in
@@ -190,7 +203,7 @@ module _ {D : Type 0} (decides : D → Decisions) where
       let placed = round.was_led.placed 0 s.file (ap (λ ms. slice_get ms 0) s.managers_are) in
       let newest : number_of s.files.phase ≡ number = rw s.files_are at (number_at _ led.server led.reached 0 number old new s.file at (omega (arith, reached)) placed) in
       refused_session led after s said version calls denied changes (refusing.Pending number) (λ same. cc)
-      (round.refused (ap is_some fault)) (rw fault at round.answer)
+      (round.refused (ap is_some fault)) whole (rw fault at round.answer)
       (ap (λ day. refusal_of (decides led.server.decider) day version) (day_is led s calls denied changes) ∙ rw (changing, newest) refl)
 
   -- the phases of the three where nothing is proposed
@@ -243,8 +256,9 @@ module _ {D : Type 0} (decides : D → Decisions) where
         port_decider = q.1 ∙ sym decider;
         most = rw (server, at) s.most;
         changing = λ whole.
-            let reached : after.reached ≡ 3 = let test = rw phase_is at whole in grind (arith, nat_tests) in
-            rw (phase_is, reached, settled.0) refl;
+            let test : nat_lt after.reached 3 ≡ false = let all = rw phase_is at whole in elim (nat_lt after.reached 3) as (λ (b : Bool). not b ≡ true → b ≡ false) [ true ↦ λ is. cc | false ↦ λ is. refl ] all in
+            let zero : nat_lt 0 after.reached ≡ true = grind (arith, nat_tests) in
+            rw (phase_is, zero, settled.0) refl;
       } in
       let idle : refusal_of (decides led.server.decider) (day_of led.managers calls denied changes) version ≡ None =
       ap (λ day. refusal_of (decides led.server.decider) day version) (day_is led s calls denied changes)
@@ -256,6 +270,7 @@ module _ {D : Type 0} (decides : D → Decisions) where
         | true ↦ λ few is. record {
           session = session;
           told = rw is (idle, grind (arith, nat_tests));
+          whole = rw is tt;
           day = rw is (now ∙ sym (ap (λ day. with_posts day (notified_if (nat_lt 0 after.reached) day.files version) (notified_if (nat_lt 1 after.reached) day.processes version)
               (notified_if (nat_lt 2 after.reached) day.ports version)) before));
         }
@@ -265,7 +280,8 @@ module _ {D : Type 0} (decides : D → Decisions) where
             let two : nat_lt 2 after.reached ≡ true = grind (arith, nat_tests) in
             record {
               session = session;
-              told = rw is (idle, sym (ap (λ day. number_of day.files.phase + 1) before ∙ ap (λ p. number_of p + 1) settled.0));
+              whole = rw (is, phase_is, all) refl;
+            told = rw is (idle, sym (ap (λ day. number_of day.files.phase + 1) before ∙ ap (λ p. number_of p + 1) settled.0));
               day = rw (is, idle) ((rw (zero, one, two) at now) ∙ sym (ap (λ day. day_notified day version None) before));
             }
       ] refl answer
@@ -282,7 +298,7 @@ module _ {D : Type 0} (decides : D → Decisions) where
           let settled = all_settled led s number old at round.was_led in
           let refused : notify_all_fault (decides led.server.decider).versions led.server led.reached version ≡ Some (for_all fault) = rw at (ap (option_map for_all) is) in
           refused_session led after s said version calls denied changes fault (λ same. never_memory number old _ version led.server.most (is ∙ ap Some same))
-          (round.refused (ap is_some refused)) (rw refused at round.answer)
+          (round.refused (ap is_some refused)) (rw at refl) (rw refused at round.answer)
           (ap (λ day. refusal_of (decides led.server.decider) day version) (day_is led s calls denied changes)
           ∙ rw (settled.0, settled.1, settled.2) (ap (λ most. notice_fault (Settled number old) (decides led.server.decider).versions version most) (sym s.most) ∙ is))
 

@@ -197,6 +197,11 @@ abbrev pub notified_if : {State : Type 0} → Bool → Post State → ℕ → Po
 notified_if true post version = notified post version
 notified_if false post version = post
 
+-- unless memory was wanting each manager has its notice
+abbrev pub IsWholeUnlessMemory : Result ℕ NotifyAllFault → Bool → Type 0
+IsWholeUnlessMemory (Err (faults.Memory reached)) whole = Unit {0}
+IsWholeUnlessMemory said whole = whole ≡ true
+
 -- after want of memory the first so many managers have their notice, and the others stand as before; else this is the day after
 abbrev pub IsDayUnlessMemory : Result ℕ NotifyAllFault → Day → Day → ℕ → Day → Type 0
 IsDayUnlessMemory (Err (faults.Memory reached)) new old version after =

@@ -1,5 +1,5 @@
 -- Where a session stands, by its managers.
-use Rattle.std.specs.Prelude.{◌≡◌, ℕ, true, Bool, not, ◌||◌, ◌==◌, unwrap_or, List, [], ◌∷◌, slice_get, Option, Some, option_map}
+use Rattle.std.specs.Prelude.{◌≡◌, ℕ, true, Bool, not, ◌&&◌, nat_lt, unwrap_or, List, [], ◌∷◌, slice_get, Option, Some, option_map}
 use Rattle.access_vectors.specs.Decisions.{Decisions}
 use Rattle.access_vectors.specs.Phases.{is_pending}
 use Rattle.access_vectors.specs.declared.asked.Asked.{Asked}
@@ -52,7 +52,7 @@ events_at decides managers number = unwrap_or (option_map (λ m. (one.seen decid
 
 -- every manager has the notice of the number that is proposed, if one is
 abbrev pub is_whole : {D M : Type 0} → Led D M → Bool
-is_whole led = not (is_pending led.server.phase) || (led.reached == 3)
+is_whole led = not (is_pending led.server.phase && nat_lt led.reached 3)
 
 -- what contracts see of a session with these managers and counts
 abbrev pub standing_of : {D : Type 0} → (D → Decisions) → Led D (OneManager D) → ℕ → ℕ → ℕ → Standing D

@@ -3,7 +3,7 @@
 ghost use Rattle.std.specs.Prelude.{◌≡◌, ◌+◌, ◌<◌, ◌^◌, true, IsTrue, IfErr, OnErr, length, drop};
 ghost use Rattle.access_vectors.specs.Phases.{number_of};
 ghost use Rattle.session_desk.specs.Days;
-ghost use Rattle.session_desk.specs.Desks.{IsDayUnlessMemory, IsSaid, IsSameOpening};
+ghost use Rattle.session_desk.specs.Desks.{IsDayUnlessMemory, IsSaid, IsSameOpening, IsWholeUnlessMemory};
 
 use crate::desk::Desk;
 use access_vectors::Decider;
@@ -27,6 +27,7 @@ impl<'d, D: Decider> Desk<'d, D> {
             IsSaid result refusal (number_of self.old.day.files.phase + 1) }
         ensures day { let refusal = Days.refusal_of (D.decides self.old.decider) self.old.day ver in
             IsDayUnlessMemory result self.new.day self.old.day ver (Days.day_notified self.old.day ver refusal) }
+        ensures whole { IsWholeUnlessMemory result self.new.whole }
         ensures opening { IsSameOpening self.old.day self.new.day }
         ensures decider { self.new.decider ≡ self.old.decider }
     {

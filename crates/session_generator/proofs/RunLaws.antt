@@ -1,7 +1,9 @@
 -- What a line of a session that is made asks may be asked.
 use Rattle.std.proofs.Common.{◌<◌, ◌^◌, ◌+◌, ◌%◌, ◌/◌, ℕ, Bool, true, false, cond, List, refl, arith, rules}
 use Rattle.std.specs.Prelude.{◌==◌, codes}
+use Rattle.std.proofs.lemmas.List.Sums.{AllPass-from_list_all}
 use Rattle.std.proofs.lemmas.Nat.{mod_below}
+use Rattle.text_lines.specs.Lines.{is_word_byte}
 use Rattle.file_calls.specs.declared.call.FileCall.TheVariants as file
 use Rattle.process_calls.specs.declared.call.ProcessCall.TheVariants as process
 use Rattle.port_calls.specs.declared.call.PortCall.TheVariants as port
@@ -50,10 +52,11 @@ file_good which clients client c within =
     let open_file : IsGood clients (File client (file.OpenFile (c / 64 % 8) (path_of (c % 64)) 3)) =
     record { may = (within, (slot_within c, path, (omega arith, omega arith)), tt); written = tt; turn = λ seen. tt } in
     let short = numbered_short 120 (c % 64) (number_small c) in
+    let word = numbered_word 120 (c % 64) refl (number_small c) in
     let write : IsGood clients (File client (file.WriteFile (c / 64 % 8) 0 (numbered (codes "x") (c % 64)))) =
     record {
-      may = (within, (slot_within c, omega arith, (numbered_some 120 (c % 64), omega (arith, short))), tt);
-      written = numbered_word 120 (c % 64) refl (number_small c);
+      may = (within, (slot_within c, omega arith, (numbered_some 120 (c % 64), omega (arith, short), AllPass-from_list_all is_word_byte (numbered (codes "x") (c % 64)) word)), tt);
+      written = word;
       turn = λ seen. tt;
     } in
     let read : IsGood clients (File client (file.ReadFile (c / 64 % 8) 0 16)) =
@@ -73,10 +76,11 @@ run_good clients a b c some =
       turn = λ seen. tt;
     } in
     let short = numbered_short 109 (c % 64) (number_small c) in
+    let word = numbered_word 109 (c % 64) refl (number_small c) in
     let send : IsGood clients (Port (a % clients) (port.Send (1 + c % 128) (numbered (codes "m") (c % 64)))) =
     record {
-      may = (within, ((omega arith, place_within c 128 (omega arith) (omega arith)), (numbered_some 109 (c % 64), omega (arith, short))));
-      written = numbered_word 109 (c % 64) refl (number_small c);
+      may = (within, ((omega arith, place_within c 128 (omega arith) (omega arith)), (numbered_some 109 (c % 64), omega (arith, short), AllPass-from_list_all is_word_byte (numbered (codes "m") (c % 64)) word)));
+      written = word;
       turn = λ seen. tt;
     } in
     either (IsGood clients) (b % 8 == 4) _ _ fork

@@ -74,13 +74,13 @@ offset_formed offset within = grind (arith, nat_tests)
 pub length_formed : (most : ℕ) → (most == 0) ≡ false → nat_lt 1024 most ≡ false → IsReadLength most
 length_formed most some within = (grind (arith, nat_tests), grind (arith, nat_tests))
 
-pub data_formed : (bytes : List ℕ) → IsWord bytes → is_long_word bytes ≡ false → IsData bytes
-data_formed [] word short = cc
-data_formed (b ∷ bs) word short = (omega arith, grind (arith, nat_tests))
-
 -- a word can be written
 pub written : (bytes : List ℕ) → IsWord bytes → AreWordBytes bytes
 written bytes word = (both (is_filled bytes) (list_all is_word_byte bytes) word).1
+
+pub data_formed : (bytes : List ℕ) → IsWord bytes → is_long_word bytes ≡ false → IsData bytes
+data_formed [] word short = cc
+data_formed (b ∷ bs) word short = (omega arith, grind (arith, nat_tests), AllPass-from_list_all is_word_byte (b ∷ bs) (written (b ∷ bs) word))
 
 pub skip_formed : (skip : ℕ) → nat_lt 4096 skip ≡ false → IsSkip skip
 skip_formed skip within = grind (arith, nat_tests)

@@ -1,9 +1,12 @@
 -- Cutting a text into lines, and a line into words, from the front.
-use Rattle.std.proofs.Common.{◌≡◌, ◌<◌, ◌+◌, ℕ, zero, suc, true, false, not, eqb, List, ◌∷◌, [], length, get_or, take, drop, refl, ap, sym, arith, Some, None}
-use Rattle.std.specs.List.{position, slice_split}
+use Rattle.std.proofs.Common.{◌≡◌, ◌<◌, ◌+◌, ℕ, zero, suc, true, false, not, eqb, List, ◌∷◌, [], length, get_or, take, drop, refl, ap, sym, arith, Bool, Option, Some, None}
+use Rattle.std.specs.List.{position, position_or_len, slice_split}
 use Rattle.std.proofs.lemmas.List.Splits.{slice_split-cons_yes, length-slice_split}
 use Rattle.std.proofs.lemmas.List.Quantifiers.{position-Some}
 use Rattle.std.proofs.lemmas.Bool.Decides.{nat_tests}
+use Rattle.std.proofs.lemmas.List.Sums.{position_or_len_is}
+use Rattle.std.proofs.lemmas.Bool.{false_from_ne_true}
+use Rattle.memchr.specs.Find.{IsFirstByte}
 use Rattle.flask_sid.proofs.Cuts.{cut_at, uncut}
 use Rattle.text_lines.specs.Lines.{is_word_byte, is_gap, begins_word, is_filled, words_of, lines_below, lines_of, is_line_end}
 
@@ -75,3 +78,13 @@ pub line_cut : (bytes line rest : List ℕ) → slice_split is_line_end bytes �
 unfolding lines_of
 line_cut bytes line rest parts =
     rw parts (line_above line (slice_split is_line_end rest) (omega (arith, length-slice_split is_line_end rest)))
+
+-- the first byte that passes a test stands at its position
+pub first_position : (p : ℕ → Bool) (xs : List ℕ) (r : Option ℕ) → IsFirstByte p xs r → r ≡ position p xs
+first_position p xs None none =
+    let at : position_or_len p xs ≡ length xs = position_or_len_is p xs (length xs) 0 (omega arith) (λ k low. false_from_ne_true _ (none k (omega arith) low)) (λ past. absurd (omega arith)) in
+    grind (arith, nat_tests, at)
+first_position p xs (Some i) first =
+    let within : i < length xs = first.0.high in
+    let at : position_or_len p xs ≡ i = position_or_len_is p xs i 0 (omega arith) (λ k low. false_from_ne_true _ (first.0.before k (omega arith) low)) (λ in_list. first.1) in
+    grind (arith, nat_tests, at)

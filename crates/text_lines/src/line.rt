@@ -1,10 +1,11 @@
 ghost use Rattle.std.specs.Prelude.{◌≡◌, ◌≤◌, [], ◌∷◌, MatchOption, OnOk};
-ghost use Rattle.std.specs.List.{list_all};
+ghost use Rattle.std.specs.List.{list_all, position};
 ghost use Rattle.text_lines.specs.Lines;
 
 use crate::fault::FaultKind;
 use crate::words::{Words, is_word_byte};
-use flask_sid::{Word, cut};
+use flask_sid::Word;
+use memchr::memchr;
 
 /// The greatest number that a line may have.
 pub const LINE_LIMIT: u32 = 100_000;
@@ -17,10 +18,20 @@ pub fn first_line(bytes: &[u8]) -> Option<(&[u8], &[u8])>
     if bytes.is_empty() {
         return None;
     }
-    match cut(bytes, b'\n') {
+    match line_end(bytes) {
         None => Some((bytes, &[])),
-        Some(parts) => Some(parts),
+        Some(at) => {
+            let (line, _) = bytes.split_at(at);
+            let (_, below) = bytes.split_at(at + 1);
+            Some((line, below))
+        }
     }
+}
+
+fn line_end(bytes: &[u8]) -> Option<usize>
+    ensures { result ≡ position Lines.is_line_end bytes.now }
+{
+    memchr(b'\n', bytes)
 }
 
 /// What a line of this number says: its words, or none where it is blank or a comment. `Limit` exactly for a

@@ -41,6 +41,7 @@ lines-preserved g c =
       counted = omega (arith, step.1, kept.counted, behind);
       logged = logged_line setting.audited setting.policy.now setting.contexts.now (decides c.args.desk.now.decider) (decides c.lines.desk.decider) c.lines.desk.day c.run_audited.new.desk.day c.in-Some.line (into_iter_items c.next.new.self) (into_iter_items c.lines.line-iterator) c.args.log.now c.lines.log c.run_audited.new.log _
           kept.logged step.0 same ran.day ran.audit;
+      whole = ran.whole;
       kept = ran.logged ∙ kept.kept;
     }
 
@@ -82,5 +83,6 @@ lines-init g c =
       left = all_left (g.D.Decider.decides c.args.desk.now.decider) (length c.args.setting.now.clients.now) c.args.desk.now.day c.args.lines.items c.requires.may;
       counted = omega (arith, iterated.1, c.args.lines.ok);
       logged = logged_start c.args.log.now (lines_audit c.args.setting.now.audited c.args.setting.now.policy.now c.args.setting.now.contexts.now (g.D.Decider.decides c.args.desk.now.decider) c.args.desk.now.day c.args.lines.items);
+      whole = c.requires.whole;
       kept = refl;
     })

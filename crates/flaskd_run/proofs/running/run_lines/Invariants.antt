@@ -1,4 +1,4 @@
-use Rattle.std.proofs.Common.{◌≡◌, ◌≤◌, length}
+use Rattle.std.proofs.Common.{◌≡◌, ◌≤◌, true, length}
 use Rattle.std.specs.Vec.Iter.{into_iter_items, into_iter_len}
 use Rattle.flaskd_run.specs.Serial.{lines_text, lines_audit}
 use Rattle.flaskd_run.specs.Underway.{IsLeft, IsLogged}
@@ -18,5 +18,6 @@ invariant-lines g l =
       logged : IsLogged l.fn.log l.log
           (lines_audit l.setting.audited l.setting.policy.now l.setting.contexts.now (g.D.Decider.decides l.fn.desk.decider) l.fn.desk.day l.fn.lines.items)
           (lines_audit l.setting.audited l.setting.policy.now l.setting.contexts.now (g.D.Decider.decides l.fn.desk.decider) l.desk.day (into_iter_items l.line-iterator));
+      whole : l.desk.whole ≡ true;
       kept : length l.log ≡ length l.fn.log;
     }

@@ -22,3 +22,6 @@ returns-clause-said g c = rw (← c.self.view_is) ((notified g c).told)
 
 pub returns-clause-day : goal.returns-clause-day
 returns-clause-day g c = rw (← c.self.view_is) ((notified g c).day)
+
+pub returns-clause-whole : goal.returns-clause-whole
+returns-clause-whole g c = (notified g c).whole

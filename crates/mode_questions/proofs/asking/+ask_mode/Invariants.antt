@@ -1,5 +1,0 @@
-use Rattle.std.proofs.Common.{length}
-use Rattle.mode_questions.proofs.asking.+ask_mode.Given as goal
-
-abbrev pub decreases-ask_mode : goal.decreases-ask_mode
-decreases-ask_mode g l = length l.perms.now
