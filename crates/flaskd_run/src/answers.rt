@@ -66,16 +66,28 @@ pub fn put_answer(
     ensures { OnOk result (out.new ≡ out.old ++ Serial.answer_text contexts.now clients.now line answer.now) }
 {
     match answer {
-        LineAnswer::Replied { client, number, reply } => {
+        LineAnswer::Replied {
+            client,
+            number,
+            reply,
+        } => {
             let name = name_of(clients, *client);
             put_client(out, line, name, manager_of(reply), *number)?;
             put_reply(out, contexts, reply)?;
         }
-        LineAnswer::Begun { client, manager, number } => {
+        LineAnswer::Begun {
+            client,
+            manager,
+            number,
+        } => {
             put_client(out, line, name_of(clients, *client), *manager, *number)?;
             out.extend(b"begun")?;
         }
-        LineAnswer::Ended { client, manager, number } => {
+        LineAnswer::Ended {
+            client,
+            manager,
+            number,
+        } => {
             put_client(out, line, name_of(clients, *client), *manager, *number)?;
             out.extend(b"ended")?;
         }

@@ -100,12 +100,20 @@ pub fn act<R: Wait, D: Decider>(
         Run::Begin { client, manager } => {
             let number = desk.acting(client, manager);
             desk.begin(alloc, client, manager);
-            Ok(LineAnswer::Begun { client, manager, number })
+            Ok(LineAnswer::Begun {
+                client,
+                manager,
+                number,
+            })
         }
         Run::End { client, manager } => {
             let number = desk.acting(client, manager);
             desk.end(alloc, client, manager);
-            Ok(LineAnswer::Ended { client, manager, number })
+            Ok(LineAnswer::Ended {
+                client,
+                manager,
+                number,
+            })
         }
         Run::Notify { ver } => {
             let said = desk.notify(rt, alloc, ver);

@@ -191,7 +191,15 @@ pub fn serial<R: Wait, D: Decider, K: Sink>(
         clients: clients.as_slice(),
         audited: audit,
     };
-    run_logged(rt, alloc, decider, openings, &setting, lines.into_vec(), sink)
+    run_logged(
+        rt,
+        alloc,
+        decider,
+        openings,
+        &setting,
+        lines.into_vec(),
+        sink,
+    )
 }
 
 /// Runs lines on a desk, and writes the summary alone. Where it stops before, a front of the summary was written.

@@ -77,7 +77,12 @@ pub fn flaskd<R: Threads + Wait, S: Source, K: Sink, G: Stops>(
 }
 
 /// Reads a session from the source, runs it and writes what it prints.
-fn read_and_run<R: Wait, S: Source, K: Sink>(rt: &R, alloc: Global, source: &mut S, sink: &mut K) -> Status
+fn read_and_run<R: Wait, S: Source, K: Sink>(
+    rt: &R,
+    alloc: Global,
+    source: &mut S,
+    sink: &mut K,
+) -> Status
     ensures ran { Top.Ran result (Some Command.Serial) (S.left source.old) (S.left source.new) (K.written sink.old) (K.written sink.new) }
     ensures command { result ≡ Status.Usage → ⊥ }
     ensures read_fault { HasCause (S.faults source.old) (S.faults source.new) (result ≡ Status.ReadFault) }
@@ -111,7 +116,14 @@ fn serve<R: Wait, K: Sink>(rt: &R, alloc: Global, bytes: &[u8], sink: &mut K) ->
 }
 
 /// Makes a session of three numbers, runs it and writes its summary.
-fn generate<R: Wait, K: Sink>(rt: &R, alloc: Global, seed: u32, clients: u8, lines: u32, sink: &mut K) -> Status
+fn generate<R: Wait, K: Sink>(
+    rt: &R,
+    alloc: Global,
+    seed: u32,
+    clients: u8,
+    lines: u32,
+    sink: &mut K,
+) -> Status
     requires { IsWithin seed clients lines }
     ensures served { Top.Served result (Command.Generate seed clients lines) (Ok (generated seed clients lines)) (K.written sink.old) (K.written sink.new) }
     ensures made { Top.IsEndOfMade result }
@@ -130,7 +142,13 @@ fn generate<R: Wait, K: Sink>(rt: &R, alloc: Global, seed: u32, clients: u8, lin
 }
 
 /// Compiles a session's policy, runs the session and writes what the command prints.
-fn run<R: Wait, K: Sink>(rt: &R, alloc: Global, asked: Command, session: Session, sink: &mut K) -> Status
+fn run<R: Wait, K: Sink>(
+    rt: &R,
+    alloc: Global,
+    asked: Command,
+    session: Session,
+    sink: &mut K,
+) -> Status
     ensures served { Top.Served result asked (Ok session) (K.written sink.old) (K.written sink.new) }
     ensures silent { Top.IsSilent result → sink.new ≡ sink.old }
     ensures cause { HasCause (K.faults sink.old) (K.faults sink.new) (result ≡ Status.WriteFault) }

@@ -6,7 +6,7 @@ mod change;
 mod ledger;
 mod station;
 
-pub use change::{Acknowledged, acknowledge, notify};
 pub use access_vectors::NotifyFault;
+pub use change::{Acknowledged, acknowledge, notify};
 pub use ledger::{Ledger, Line};
 pub use station::call;

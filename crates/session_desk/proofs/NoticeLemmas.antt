@@ -281,7 +281,7 @@ module _ {D : Type 0} (decides : D → Decisions) where
             record {
               session = session;
               whole = rw (is, phase_is, all) refl;
-            told = rw is (idle, sym (ap (λ day. number_of day.files.phase + 1) before ∙ ap (λ p. number_of p + 1) settled.0));
+              told = rw is (idle, sym (ap (λ day. number_of day.files.phase + 1) before ∙ ap (λ p. number_of p + 1) settled.0));
               day = rw (is, idle) ((rw (zero, one, two) at now) ∙ sym (ap (λ day. day_notified day version None) before));
             }
       ] refl answer
