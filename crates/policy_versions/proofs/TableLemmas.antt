@@ -1,5 +1,5 @@
 -- Blocks of rows in a table.
-use Rattle.std.proofs.Common.{◌≡◌, ◌∙◌, ℕ, ◌+◌, ◌<◌, ◌≤◌, List, [], ◌∷◌, ◌++◌, length, get_or, take, Some, None, refl, sym, ap, subst, arith, length-append, ⊎_elim}
+use Rattle.std.proofs.Common.{◌≡◌, ◌∙◌, ℕ, ◌+◌, ◌<◌, ◌≤◌, List, [], ◌∷◌, ◌++◌, length, get_or, take, Some, None, refl, sym, ap, subst, arith, length-append, ⊎_elim, cond, eqb, false, set, get_or-set_same, get_or-set_other}
 use Rattle.std.specs.Prelude.{slice_get}
 use Rattle.std.proofs.lemmas.Bool.{cases_lt, cases_eq}
 use Rattle.std.proofs.lemmas.List.{get_or_append_left, get_or-append-add, get_or_push}
@@ -20,9 +20,14 @@ use Rattle.policy_versions.specs.declared.row.Row.{Row}
 use Rattle.policy_versions.specs.declared.table.Table.{Table}
 use Rattle.policy_versions.specs.Changes.{no_row, Tells, AllTell, AreRules}
 use Rattle.policy_versions.specs.Given.{AreGivenOf}
-use Rattle.policy_versions.specs.Cells.{StandsAt, KeepsRows, TellFrom, AllTellFrom, TableTells}
+use Rattle.policy_model.specs.Matching.{is_same_class}
+use Rattle.access_vectors.specs.Table.{code_of}
+use Rattle.policy_versions.specs.declared.block.Block.{Block}
+use Rattle.std.proofs.lemmas.Bool.Decides.{nat_tests}
+use Rattle.std.proofs.lemmas.List.{get_or_default}
+use Rattle.policy_versions.specs.Cells.{class_place, StandsAt, KeepsRows, TellFrom, AllTellFrom, TableTells}
 use Rattle.policy_versions.proofs.GrowsLemmas.{grows_at, grows_few}
-use Rattle.policy_versions.proofs.TellLemmas.{told_none, given_from}
+use Rattle.policy_versions.proofs.TellLemmas.{told_none, told_other, given_from}
 
 -- rows that nothing is done to
 pub keeps_all : (rows : List Row) → KeepsRows rows rows
@@ -72,6 +77,65 @@ each_class P file dir process port security Dir = dir
 each_class P file dir process port security Process = process
 each_class P file dir process port security Port = port
 each_class P file dir process port security Security = security
+
+-- the place of a class is below five, and tells the class
+pub place_small : (class : Class) → class_place class < 5
+place_small File = omega arith
+place_small Dir = omega arith
+place_small Process = omega arith
+place_small Port = omega arith
+place_small Security = omega arith
+
+class_at : ℕ → Class
+class_at at = cond (eqb at 0) File (cond (eqb at 1) Dir (cond (eqb at 2) Process (cond (eqb at 3) Port Security)))
+
+at_place : (class : Class) → class_at (class_place class) ≡ class
+unfolding class_at
+at_place File = refl
+at_place Dir = refl
+at_place Process = refl
+at_place Port = refl
+at_place Security = refl
+
+code_at : (class : Class) → code_of class ≡ class_place class + 1
+code_at File = refl
+code_at Dir = refl
+code_at Process = refl
+code_at Port = refl
+code_at Security = refl
+
+-- blocks of which the one of a rule line's class tells of that line too
+pub drawn_more : (content : Content) (policy : PolicyParts) (above : List RuleLine) (rule : RuleLine) (blocks : List Block) (block : Block) → length blocks ≡ 5 → ((class : Class) (none : Block) → AllTell content policy above class (get_or blocks (class_place class) none).rows.items) → AllTell content policy (above ++ rule ∷ []) rule.class block.rows.items → (class : Class) (none : Block) → AllTell content policy (above ++ rule ∷ []) class (get_or (set blocks (class_place rule.class) block) (class_place class) none).rows.items
+drawn_more content policy above rule blocks block whole told here class none =
+    ⊎_elim
+    (λ same.
+    let is : rule.class ≡ class = sym (at_place rule.class) ∙ ap class_at (sym same) ∙ at_place class in
+    let small : class_place rule.class < 5 = place_small rule.class in
+    rw (same, get_or-set_same blocks (class_place rule.class) block none (omega arith)) (subst (λ one. AllTell content policy (above ++ rule ∷ []) one block.rows.items) is here))
+    (λ apart.
+    let other : is_same_class rule.class class ≡ false = grind (arith, nat_tests, code_at rule.class, code_at class) in
+    rw (get_or-set_other blocks (class_place rule.class) (class_place class) block none apart) (λ s t hs ht. told_other content policy above rule class s t _ other (told class none s t hs ht)))
+    (cases_eq (class_place class) (class_place rule.class))
+
+-- one of the blocks
+pub some_block : (blocks : List Block) → length blocks ≡ 5 → Block
+some_block [] whole = absurd (omega (arith, whole))
+some_block (block ∷ blocks) whole = block
+
+-- rows that stand, stand on
+pub stands_on : (before after block : List Row) (first : ℕ) → KeepsRows before after → StandsAt before block first → StandsAt after block first
+stands_on before after block first keeps stands =
+    let within : first + 128 ≤ length before = stands.within in
+    let grows : length before ≤ length after = keeps.grows in
+    record { within = omega arith; same = λ s h. keeps.same (first + s) (omega arith) ∙ stands.same s h }
+
+-- where one block's rows stand, and those of the blocks before it
+pub stand_more : (before after : List Row) (blocks : List Block) (block : Block) (firsts : List ℕ) (at first : ℕ) → length blocks ≡ 5 → length firsts ≡ 5 → at < 5 → block ≡ get_or blocks at block → KeepsRows before after → StandsAt after block.rows.items first → ((k : ℕ) (none : Block) → k < at → StandsAt before (get_or blocks k none).rows.items (get_or firsts k 0)) → (k : ℕ) (none : Block) → k < at + 1 → StandsAt after (get_or blocks k none).rows.items (get_or (set firsts at first) k 0)
+stand_more before after blocks block firsts at first whole size small is keeps here stand k none below =
+    ⊎_elim
+    (λ same. rw (same, get_or-set_same firsts at first 0 (omega arith), get_or_default blocks at none block (omega arith), sym is) here)
+    (λ apart. rw (get_or-set_other firsts at k first 0 apart) (stands_on before after _ _ keeps (stand k none (omega arith))))
+    (cases_eq k at)
 
 -- the rule lines of a kept policy name what is declared
 pub version_rules : (policy : PolicyParts) → Kept policy → (i : ℕ) (version : Version) → i < length policy.versions → version ≡ get_or policy.versions i version → AreRules policy version.rules

@@ -6,13 +6,12 @@ ghost use Rattle.policy_model.specs.declared.policy.RuleLine.{RuleLine};
 ghost use Rattle.policy_model.specs.Kept.{IsRule};
 ghost use Rattle.policy_versions.specs.Sets.{has_place};
 ghost use Rattle.policy_versions.specs.Kinds.{AreKindsOf};
-ghost use Rattle.policy_versions.specs.Changes.{cell_of, AreChanged, AreMatchedChanged, AreRules, AllTell};
+ghost use Rattle.policy_versions.specs.Changes.{cell_of, AreChanged, AreMatchedChanged, AllTell};
 
 use crate::change::{Change, Content, change_of};
 use crate::kind_set::KindSet;
 use crate::kinds::Kinds;
 use crate::row::Row;
-use access_vectors::Class;
 use flask_sid::Memory;
 use policy_model::{RuleLine, Who};
 use std::alloc::Global;
@@ -31,18 +30,8 @@ impl Block {
         Ok(Block { rows })
     }
 
-    /// Draws the rule lines of a class, from the first to the last.
-    pub(crate) fn draw(&mut self, kinds: &Kinds, content: Content, rules: &[RuleLine], class: Class)
-        ensures { (policy : PolicyParts) → AreKindsOf policy kinds.now → AreRules policy rules.now
-            → AllTell content policy rules.now class self.new.rows.items }
-    {
-        self.clear();
-        'rules: for rule in rules {
-            self.draw_line(kinds, content, rule, class);
-        }
-    }
-
-    fn clear(&mut self)
+    /// Nothing is drawn yet.
+    pub(crate) fn clear(&mut self)
         ensures { (s t : ℕ) → s < 128 → cell_of self.new.rows.items s t ≡ 0 }
     {
         for row in self.rows.iter_mut() {
@@ -50,15 +39,13 @@ impl Block {
         }
     }
 
-    fn draw_line(&mut self, kinds: &Kinds, content: Content, rule: &RuleLine, class: Class)
+    /// Draws one rule line more.
+    pub(crate) fn draw_line(&mut self, kinds: &Kinds, content: Content, rule: &RuleLine)
         ensures { (policy : PolicyParts) (above : List RuleLine) → AreKindsOf policy kinds.now
             → IsRule policy.kinds policy.attributes rule.now
-            → AllTell content policy above class self.old.rows.items
-            → AllTell content policy (above ++ rule.now ∷ []) class self.new.rows.items }
+            → AllTell content policy above rule.now.class self.old.rows.items
+            → AllTell content policy (above ++ rule.now ∷ []) rule.now.class self.new.rows.items }
     {
-        if rule.class.code() != class.code() {
-            return;
-        }
         if let Some(change) = change_of(kinds, content, &rule.verdict) {
             self.change(kinds, &rule.source, &rule.target, change);
         }

@@ -7,6 +7,7 @@ ghost use Rattle.policy_versions.specs.Changes.{AreRules};
 ghost use Rattle.policy_versions.specs.Cells.{cell_at, class_place, StandsAt, KeepsRows, AllTellFrom, TableTells};
 
 use crate::block::Block;
+use crate::blocks::{Blocks, place_of};
 use crate::change::Content;
 use crate::kind::Kind;
 use crate::kinds::Kinds;
@@ -36,13 +37,13 @@ impl Table {
         requires { AreKindsOf policy.now kinds.now }
         ensures { IfOk result (λ table. TableTells content policy.now table) }
     {
-        let mut block = Block::new(alloc)?;
+        let mut blocks = Blocks::new(alloc)?;
         let mut rows = vec![in alloc; Row::empty(); 128]?;
         let mut firsts = Vec::new(alloc);
         let mut before = [0; 5];
         'versions: for version in policy.parts().versions.as_slice() {
             let rules = version.rules.as_slice();
-            before = draw_version(&mut rows, &mut block, kinds, content, rules, before)?;
+            before = draw_version(&mut rows, &mut blocks, kinds, content, rules, before)?;
             firsts.push(before)?;
         }
         Ok(Table { firsts, rows })
@@ -86,24 +87,11 @@ impl Table {
     }
 }
 
-fn place_of(class: Class) -> usize
-    ensures value { result ≡ class_place class }
-    ensures within { result < 5 }
-{
-    match class {
-        Class::File => 0,
-        Class::Dir => 1,
-        Class::Process => 2,
-        Class::Port => 3,
-        Class::Security => 4,
-    }
-}
-
 // Draws the rule lines of a version, and answers the place of each class's first row. `before` has those of the version
 // before, whose rows may be shared.
 fn draw_version(
     rows: &mut Vec<Row>,
-    block: &mut Block,
+    blocks: &mut Blocks,
     kinds: &Kinds,
     content: Content,
     rules: &[RuleLine],
@@ -115,17 +103,12 @@ fn draw_version(
     ensures tell { IfOk result (λ firsts. (policy : PolicyParts) → AreKindsOf policy kinds.now → AreRules policy rules.now
         → AllTellFrom content policy rules.now rows.new.items firsts) }
 {
-    block.draw(kinds, content, rules, Class::File);
-    let file = place(rows, block, before[0])?;
-    block.draw(kinds, content, rules, Class::Dir);
-    let dir = place(rows, block, before[1])?;
-    block.draw(kinds, content, rules, Class::Process);
-    let process = place(rows, block, before[2])?;
-    block.draw(kinds, content, rules, Class::Port);
-    let port = place(rows, block, before[3])?;
-    block.draw(kinds, content, rules, Class::Security);
-    let security = place(rows, block, before[4])?;
-    Ok([file, dir, process, port, security])
+    blocks.draw(kinds, content, rules);
+    let mut firsts = before;
+    'classes: for at in 0..5usize {
+        firsts[at] = place(rows, &blocks.drawn[at], firsts[at])?;
+    }
+    Ok(firsts)
 }
 
 // The place from which a block's rows stand: at the front or at `before` where they stand there already, and else
