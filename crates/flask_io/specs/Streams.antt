@@ -28,7 +28,8 @@ Writes Refused before now piece = now ≡ before
 abbrev pub Rose : ℕ → ℕ → Type 0
 Rose before now = min (before + 1) (2 ^ 64 - 1) ≤ now
 
--- a count of faults never falls, and a failure comes only where it rose
+-- a count of faults never falls; a failure comes only where it rose, and where nothing failed it stands
 pub record HasCause (before now : ℕ) (failed : Type 0) : Type 0 where
   pub later : before ≤ now
   pub rose : failed → Rose before now
+  pub quiet : (failed → ⊥) → now ≤ before

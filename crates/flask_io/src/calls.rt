@@ -1,7 +1,7 @@
 //! The calls of a stream in memory, of which listed ones fail.
 
 ghost use Rattle.std.specs.Prelude.{◌≡◌, ◌≤◌, ◌==◌};
-ghost use Rattle.std.specs.Bool.{OnTrue};
+ghost use Rattle.std.specs.Bool.{OnTrue, OnFalse};
 ghost use Rattle.std.specs.List.{list_any};
 ghost use Rattle.flask_io.specs.Streams.{Rose};
 
@@ -58,6 +58,7 @@ impl<'a> Calls<'a> {
         ensures counted { self.new ≡ next_of self.old }
         ensures later { self.old.faults ≤ self.new.faults }
         ensures rose { OnTrue result (Rose self.old.faults self.new.faults) }
+        ensures quiet { OnFalse result (self.new.faults ≤ self.old.faults) }
     {
         self.asked = self.asked.saturating_add(1);
         let fails = is_listed(self.failing, self.asked);

@@ -55,7 +55,7 @@ pub fn flaskd<R: Threads + Wait, S: Source, K: Sink, G: Stops>(
     // Of the bytes that were taken from the source, status and text are the stated functions.
     ensures ran { Top.Ran result (command_of words.now) (S.left source.old) (S.left source.new) (K.written sink.old) (K.written sink.new) }
 
-    // A fault comes only from its own cause.
+    // A fault comes only from its own cause, and none is passed over.
     ensures read_fault { HasCause (S.faults source.old) (S.faults source.new) (result ≡ Status.ReadFault) }
     ensures write_fault { HasCause (K.faults sink.old) (K.faults sink.new) (result ≡ Status.WriteFault) }
     ensures silent { Top.IsSilent result → sink.new ≡ sink.old }

@@ -23,5 +23,5 @@ lines-preserved g c =
     record {
       written = rw (part_more (line_text c.args.contexts.now c.args.name.now) c.args.lines.now c.lines.line-index c.line-item.result c.lines-test.true c.line-item.is)
           (adds_more _ _ _ _ _ kept.written (rw out_is at c.in_ok-put_line.ensures.ok));
-      later = omega (arith, kept.later, c.put_line.ensures.cause.later);
+      quiet = omega (arith, kept.quiet, c.in_ok-put_line.ensures.cause.later, c.in_ok-put_line.ensures.cause.quiet (λ is. cc));
     }

@@ -34,7 +34,7 @@ lines-preserved g c =
     record {
       written = line_written setting.contexts.now (decides c.args.desk.now.decider) (decides c.lines.desk.decider) setting.clients.now c.lines.desk.day c.run_audited.new.desk.day c.in-Some.line (into_iter_items c.next.new.self) (into_iter_items c.lines.line-iterator) _ _ _ _ c.run_audited.new.out
           kept.written step.0 same ran.text ran.day c.in_ok-put_line.ensures.ok;
-      later = omega (arith, kept.later, c.put_line.ensures.cause.later);
+      quiet = omega (arith, kept.quiet, c.in_ok-put_line.ensures.cause.later, c.in_ok-put_line.ensures.cause.quiet (λ is. cc));
       decider = ran.decider ∙ kept.decider;
       left = left_more (decides c.args.desk.now.decider) (decides c.lines.desk.decider) (length setting.clients.now) c.args.desk.now.day c.lines.desk.day c.run_audited.new.desk.day c.args.lines.items (into_iter_items c.lines.line-iterator) (into_iter_items c.next.new.self) c.in-Some.line
           kept.left step.0 same ran.day ran.opening;
@@ -78,7 +78,7 @@ lines-init g c =
     rw (iterated.0)
     (record {
       written = nothing_written (g.K.Sink.written c.args.sink.now) (lines_text c.args.setting.now.contexts.now (g.D.Decider.decides c.args.desk.now.decider) c.args.setting.now.clients.now c.args.desk.now.day c.args.lines.items);
-      later = omega arith;
+      quiet = refl;
       decider = refl;
       left = all_left (g.D.Decider.decides c.args.desk.now.decider) (length c.args.setting.now.clients.now) c.args.desk.now.day c.args.lines.items c.requires.may;
       counted = omega (arith, iterated.1, c.args.lines.ok);

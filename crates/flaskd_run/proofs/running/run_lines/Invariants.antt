@@ -11,7 +11,7 @@ invariant-lines g l =
       written : IsOffered (g.K.Sink.written l.fn.sink) (g.K.Sink.written l.sink)
           (lines_text l.setting.contexts.now (g.D.Decider.decides l.fn.desk.decider) l.setting.clients.now l.fn.desk.day l.fn.lines.items)
           (lines_text l.setting.contexts.now (g.D.Decider.decides l.fn.desk.decider) l.setting.clients.now l.desk.day (into_iter_items l.line-iterator));
-      later : g.K.Sink.faults l.fn.sink ≤ g.K.Sink.faults l.sink;
+      quiet : g.K.Sink.faults l.sink ≡ g.K.Sink.faults l.fn.sink;
       decider : l.desk.decider ≡ l.fn.desk.decider;
       left : IsLeft (g.D.Decider.decides l.fn.desk.decider) (length l.setting.clients.now) l.fn.desk.day l.desk.day l.fn.lines.items (into_iter_items l.line-iterator);
       counted : into_iter_len l.line-iterator ≡ length (into_iter_items l.line-iterator);

@@ -8,7 +8,7 @@ returns-in_err-run_quietly-clause-err g c = on_err_always _ _ (front_so_far _ _ 
 
 pub returns-in_err-run_quietly-clause-cause : goal.returns-in_err-run_quietly-clause-cause
 returns-in_err-run_quietly-clause-cause g c =
-    record { later = omega arith; rose = λ is. absurd (no_write_fault c.from_residual.result c.from_residual.ensures.1 is) }
+    record { later = omega arith; rose = λ is. absurd (no_write_fault c.from_residual.result c.from_residual.ensures.1 is); quiet = λ _. omega arith }
 
 pub returns-clause-ok : goal.returns-clause-ok
 returns-clause-ok g c = rw (← c.in_ok-run_quietly.ensures.day) c.write_summary.ensures.ok
