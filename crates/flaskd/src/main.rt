@@ -1,32 +1,53 @@
 //! `flaskd`: runs the program over standard input and standard output.
 #![tactic(auto)]
 
-use flask_io::{ReaderSource, WriterSink};
-use flask_sid::Word;
+use flask_io::{ReaderSource, Sink, Source, WriterSink};
+use flask_sid::{Memory, Word};
 use flaskd_run::{NoStops, Status, flaskd, status_text};
-use std::io;
+use std::alloc::Global;
+use std::io::{self, ErrorKind};
 use std::process::ExitCode;
+use std::sync::Wait;
+use std::thread::Threads;
 
 fn main(rt: HostRuntime) -> io::Result<ExitCode> {
-    let alloc = rt.alloc();
-    let texts: Vec<String> = std::env::args(&rt)?.skip(1).collect(alloc)?;
-    let mut words = Vec::new(alloc);
-    for text in &texts {
-        words.push(Word::new(text.as_bytes()))?;
-    }
-    let mut source = ReaderSource::new(rt.stdin());
-    let mut sink = WriterSink::new(rt.stdout());
-    let status = flaskd(
-        &rt,
-        alloc,
-        words.as_slice(),
-        &mut source,
-        &mut sink,
-        &NoStops,
-    );
+    let status = match texts(&rt) {
+        Ok(texts) => {
+            let mut source = ReaderSource::new(rt.stdin());
+            let mut sink = WriterSink::new(rt.stdout());
+            run(&rt, rt.alloc(), &texts, &mut source, &mut sink).unwrap_or(Status::Memory)
+        }
+        Err(status) => status,
+    };
     if status != Status::Ok {
-        let text = status_text(alloc, &status)?;
-        eprintln!(rt; "{text}")?;
+        // The exit status tells the end also where there is no memory for its text.
+        if let Ok(text) = status_text(rt.alloc(), &status) {
+            eprintln!(rt; "{text}")?;
+        }
     }
     Ok(ExitCode::from(status.code()))
+}
+
+/// The words of the command, without the program's own name. A word that is not UTF-8 is none of a command.
+fn texts(rt: &HostRuntime) -> Result<Vec<String>, Status> {
+    match std::env::args(rt) {
+        Ok(args) => args.skip(1).collect(rt.alloc()).map_err(|_| Status::Memory),
+        Err(e) if e.kind() == ErrorKind::OutOfMemory => Err(Status::Memory),
+        Err(_) => Err(Status::Usage),
+    }
+}
+
+/// Runs the program by these words.
+fn run<R: Threads + Wait, S: Source, K: Sink>(
+    rt: &R,
+    alloc: Global,
+    texts: &[String],
+    source: &mut S,
+    sink: &mut K,
+) -> Result<Status, Memory> {
+    let mut words = Vec::new(alloc);
+    for text in texts {
+        words.push(Word::new(text.as_bytes()))?;
+    }
+    Ok(flaskd(rt, alloc, words.as_slice(), source, sink, &NoStops))
 }
