@@ -4,7 +4,7 @@
     tests/model/plain_model.py < SESSION          prints the answer
     tests/model/plain_model.py --write FOLDER     writes NAME.out beside each NAME.in of a folder
 
-It knows the whole policy language and every session line but `audit`. Decisions walk the lines, contexts are tuples, and a
+It knows the whole policy language and every line of a session. Decisions walk the lines, contexts are tuples, and a
 slot keeps the policy number that it follows, from which the stale slots are counted anew at each line.
 """
 
@@ -39,16 +39,18 @@ def names_of(path):
 
 
 class Policy:
-    """The contexts, and the rule lines of each version."""
+    """The contexts, the declarations on audit, and the rule lines of each version."""
 
     def __init__(self):
-        self.contexts, self.attributes, self.versions = [], {}, []
+        self.contexts, self.attributes, self.audits, self.versions = [], {}, [], []
 
     def declare(self, words):
         if words[0] == "context":
             self.contexts.append(context_of(words[1]))
         elif words[0] == "attribute":
             self.attributes[words[1]] = set(words[2:])
+        elif words[0] in ("dontaudit", "auditallow"):
+            self.audits.append(words)
         elif words[0] == "version":
             self.versions.append([])
         elif words[0] in ("allow", "withhold", "transition", "member"):
@@ -57,30 +59,35 @@ class Policy:
     def is_type(self, word, kind):
         return word == "*" or word == kind or kind in self.attributes.get(word, ())
 
-    def matching(self, version, verbs, source, target, name):
+    def matching(self, lines, verbs, source, target, name):
         """The lines of these verbs that match a pair of types and a class, in order."""
-        for line in self.versions[version]:
+        for line in lines:
             if line[0] in verbs and line[3] == name and self.is_type(line[1], source):
                 if source == target if line[2] == "self" else self.is_type(line[2], target):
                     yield line
 
     def vector(self, version, s, t, name):
         allowed = set()
-        for line in self.matching(version, ("allow", "withhold"), s[2], t[2], name):
+        for line in self.matching(self.versions[version], ("allow", "withhold"), s[2], t[2], name):
             perms = set(CLASSES[name] if line[4] == "*" else line[4:])
             allowed = allowed | perms if line[0] == "allow" else allowed - perms
         return allowed
 
     def label(self, version, s, t, name):
         """The label of a new object of a class."""
-        lines = list(self.matching(version, ("transition",), s[2], t[2], name))
+        lines = list(self.matching(self.versions[version], ("transition",), s[2], t[2], name))
         if name == "process":
             return (s[0], s[1], lines[-1][4] if lines else s[2])
         return (s[0], "object_r", lines[-1][4] if lines else t[2])
 
     def member(self, version, s, t, name):
-        lines = list(self.matching(version, ("member",), s[2], t[2], name))
+        lines = list(self.matching(self.versions[version], ("member",), s[2], t[2], name))
         return (s[0], "object_r", lines[-1][4]) if lines else t
+
+    def is_audited(self, s, t, name, perm, allowed):
+        """Whether a question has an audit line: a denial but where it is silenced, a grant where it is watched."""
+        lines = self.matching(self.audits, ("auditallow" if allowed else "dontaudit",), s[2], t[2], name)
+        return allowed == any(line[4] == "*" or perm in line[4:] for line in lines)
 
 
 class Node:
@@ -130,6 +137,11 @@ class Manager:
         self.number, self.old, self.new, self.pending = 0, 0, 0, False
         self.held, self.slots = {}, {}
 
+    @property
+    def settled(self):
+        """The policy number that is in force: while a change is pending, the one before the newest."""
+        return self.number - self.pending
+
     def version(self, number):
         return self.old if self.pending and number < self.number else self.new
 
@@ -138,7 +150,7 @@ class Manager:
         order, policy = list(self.session.clients), self.session.policy
         found = []
         for (client, slot), held in self.slots.items():
-            if self.pending and held.follows == self.number - 1:
+            if self.pending and held.follows == self.settled:
                 pair = (self.session.clients[client], held.held.label, self.kind)
                 if policy.vector(self.old, *pair) != policy.vector(self.new, *pair):
                     found.append((order.index(client), slot, client))
@@ -152,9 +164,9 @@ class Manager:
             self.slots[place].follows = self.number
         return str(len(self.stale()))
 
-    def acknowledge(self):
-        older = sum(number < self.number for number in self.held.values())
-        if self.pending and older:
+    def acknowledge(self, forced):
+        older = sum(number == self.settled for number in self.held.values())
+        if self.pending and older and not forced:
             return f"busy:{older}"
         if self.stale():
             return f"behind:{len(self.stale())}"
@@ -172,7 +184,7 @@ class Session:
     """What a session opens with, and where its run stands."""
 
     def __init__(self, text):
-        self.policy, self.clients, self.runs = Policy(), {}, []
+        self.policy, self.clients, self.runs, self.audits = Policy(), {}, [], False
         part, nodes, self.initial, self.labels = "policy", [], {}, {}
         for number, words in words_of(text):
             if words in (["session"], ["run"]) and part != "run":
@@ -181,6 +193,8 @@ class Session:
                 self.policy.declare(words)
             elif part == "run":
                 self.runs.append((number, words))
+            elif words[0] == "audit":
+                self.audits = True
             elif words[0] in ("dir", "file"):
                 nodes.append(words)
             elif words[0] == "initial":
@@ -195,6 +209,7 @@ class Session:
         self.processes, self.ports = {}, {}
         self.managers = {kind: Manager(self, kind) for kind in ("file", "process", "port")}
         self.calls = self.denied = self.changes = 0
+        self.audited = {client: [] for client in self.clients}
 
     def lay(self, names, node):
         at = self.root
@@ -208,15 +223,17 @@ class Session:
 
 
 class Call:
-    """One call of a client on a manager, under the policy number of its pass."""
+    """One call of a client on a manager, under the policy number of its pass. It keeps what it asked, and each answer."""
 
     def __init__(self, session, manager, client, number):
         self.session, self.manager, self.client, self.number = session, manager, client, number
-        self.subject, self.version = session.clients[client], manager.version(number)
+        self.subject, self.version, self.asked = session.clients[client], manager.version(number), []
 
     def ask(self, label, name, *perms, subject=None):
-        vector = self.session.policy.vector(self.version, subject or self.subject, label, name)
+        source = subject or self.subject
+        vector = self.session.policy.vector(self.version, source, label, name)
         for perm in perms:
+            self.asked.append((source, label, name, perm, perm in vector))
             if perm not in vector:
                 raise Refused(f"denied {name} {perm}")
 
@@ -520,7 +537,14 @@ CALLS = {"file": FileCall, "process": ProcessCall, "port": PortCall}
 class Run(Session):
     """The lines of a session, run one after another."""
 
-    def client_line(self, client, words):
+    def log(self, line, call):
+        """The audit lines of a call."""
+        for s, t, name, perm, allowed in call.asked:
+            if self.audits and self.policy.is_audited(s, t, name, perm, allowed):
+                verdict = f"{'granted' if allowed else 'denied'} {':'.join(s)} {':'.join(t)} {name} {perm}"
+                self.audited[call.client].append(f"audit {call.client} {line} {verdict} policy {call.number}")
+
+    def client_line(self, line, client, words):
         manager = self.managers[words[0]]
         number = manager.held.get(client, manager.number)
         if words[1] == "begin":
@@ -530,10 +554,14 @@ class Run(Session):
             del manager.held[client]
             return f"{number} ended"
         self.calls += 1
+        if number < manager.settled:
+            return f"{number} aborted"
+        call = CALLS[words[0]](self, manager, client, number)
         try:
-            reply = getattr(CALLS[words[0]](self, manager, client, number), words[1])(*words[2:])
+            reply = getattr(call, words[1])(*words[2:])
         except Refused as refused:
             reply = str(refused)
+        self.log(line, call)
         self.denied += reply.startswith("denied")
         return f"{number} {reply}"
 
@@ -553,10 +581,10 @@ class Run(Session):
     def update(self, k):
         return " ".join(["updated", *(manager.update(k) for manager in self.managers.values())])
 
-    def acknowledge(self):
+    def acknowledge(self, forced):
         if not self.is_changing():
             return "idle"
-        items = [manager.acknowledge() for manager in self.managers.values()]
+        items = [manager.acknowledge(forced) for manager in self.managers.values()]
         if self.is_changing():
             return " ".join(["waiting", *items])
         self.changes += 1
@@ -565,7 +593,7 @@ class Run(Session):
     def admin_line(self, words):
         if words[0] == "notify":
             return self.notify(int(words[1]))
-        return self.update(int(words[1])) if words[0] == "update" else self.acknowledge()
+        return self.update(int(words[1])) if words[0] == "update" else self.acknowledge(words[0] == "force")
 
     def answer(self):
         lines = []
@@ -573,8 +601,9 @@ class Run(Session):
             if words[0] == "admin":
                 lines.append(f"{number} admin {self.admin_line(words[1:])}")
             else:
-                said = self.client_line(words[0], words[1:])
+                said = self.client_line(number, words[0], words[1:])
                 lines.append(f"{number} {words[0]} {words[1]} {said}")
+        lines += [line for client in self.clients for line in self.audited[client]]
         lines.append(f"calls {self.calls} denied {self.denied} changes {self.changes}")
         return "\n".join(lines) + "\n"
 

@@ -2,3 +2,4 @@ pub mod Places
 pub mod Members
 pub mod MappedLemmas
 pub mod StaleLemmas
+pub mod ForcedLemmas

@@ -4,6 +4,7 @@ pub mod Vectors
 pub mod Decisions
 pub mod Asking
 pub mod Phases
+pub mod Forced
 pub mod Notices
 pub mod Mapped
 pub mod Stale

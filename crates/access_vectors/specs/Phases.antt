@@ -1,5 +1,5 @@
 -- Phases of a policy change, and which policy an operation may name.
-use Rattle.std.specs.Prelude.{◌≡◌, ℕ, ◌+◌, ◌==◌, ◌<◌, ◌⊎◌, Bool, true, false, if◌then◌else◌}
+use Rattle.std.specs.Prelude.{◌≡◌, ℕ, ◌+◌, ◌-◌, ◌==◌, ◌<◌, ◌⊎◌, Bool, true, false, if◌then◌else◌}
 use Rattle.access_vectors.specs.declared.phase.Phase.{Phase}
 use Rattle.access_vectors.specs.declared.phase.Phase.TheVariants.{Settled, Pending}
 
@@ -7,6 +7,11 @@ use Rattle.access_vectors.specs.declared.phase.Phase.TheVariants.{Settled, Pendi
 abbrev pub number_of : Phase → ℕ
 number_of (Settled number version) = number
 number_of (Pending number old new) = number
+
+-- the settled number, which is the one before the pending one
+abbrev pub settled_number : Phase → ℕ
+settled_number (Settled number version) = number
+settled_number (Pending number old new) = number - 1
 
 -- the version of a policy number that may be named
 abbrev pub version_at : Phase → ℕ → ℕ

@@ -21,6 +21,16 @@ impl Phase {
         }
     }
 
+    /// The settled policy number: the one before the pending one where a change is pending.
+    pub fn settled(&self) -> u32
+        ensures { result ≡ Phases.settled_number self.now }
+    {
+        match *self {
+            Phase::Settled { number, .. } => number,
+            Phase::Pending { number, .. } => number.saturating_sub(1),
+        }
+    }
+
     /// The version of a policy number that an operation may name in this phase.
     pub fn version_at(&self, number: u32) -> u8
         ensures { result ≡ Phases.version_at self.now number }

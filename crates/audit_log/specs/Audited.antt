@@ -5,7 +5,7 @@ use Rattle.flask_sid.specs.declared.context.ContextOf.{ContextOf}
 use Rattle.access_vectors.specs.Table.{Permission}
 use Rattle.access_vectors.specs.declared.asked.Asked.{Asked}
 use Rattle.manager_history.specs.declared.entry.Entry.{Entry}
-use Rattle.manager_history.specs.declared.entry.Entry.TheVariants.{Op, Notice, Ack}
+use Rattle.manager_history.specs.declared.entry.Entry.TheVariants.{Op, Aborted, Notice, Ack, Forced}
 use Rattle.policy_model.specs.declared.policy.Pattern.{Pattern}
 use Rattle.policy_model.specs.declared.policy.PolicyParts.{PolicyParts}
 use Rattle.policy_model.specs.Matching.{matches_permission}
@@ -34,8 +34,10 @@ line_for acting asked = record { client = acting.client; mark = acting.mark; ask
 abbrev pub lines_asked : PolicyParts → List (ContextOf (List ℕ)) → Acting → List Asked → List AuditLine
 lines_asked policy contexts acting asked = map (line_for acting) (filter (is_audited policy contexts) asked)
 
--- the audit lines of an entry of a history; a notice and an acknowledgement have none
+-- the audit lines of an entry of a history; an aborted call, a notice and an acknowledgement have none
 abbrev pub lines_of : {Call Reply : Type 0} → PolicyParts → List (ContextOf (List ℕ)) → Entry Call Reply → List AuditLine
 lines_of policy contexts (Op caller mark call number asked reply) = lines_asked policy contexts (record { client = caller; mark = mark; number = number }) asked
+lines_of policy contexts (Aborted caller mark call number) = []
 lines_of policy contexts (Notice number version) = []
 lines_of policy contexts (Ack number) = []
+lines_of policy contexts (Forced number) = []

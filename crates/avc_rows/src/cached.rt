@@ -12,11 +12,12 @@ use flask_sid::Sid;
 use gate_rule::Journal;
 
 /// The asker of a gate's cache, for a seat with a pass: it asks at the version of that pass. What is not cached it
-/// asks plainly, and it keeps its count of questions there.
+/// asks plainly, and it keeps its count of questions there. Its end is that it is taken apart: the seat is then its
+/// borrower's again.
 pub struct Cached<'a, 'd, V: Journal<D>, D: Decider> {
     pub gate: &'a Gate<'d, V, D>,
     pub seat: &'a mut Seat<V, D>,
-    number: u32,
+    pub number: u32,
     pub plainly: Plainly<'a, D>,
     ghost ready: { IsOfGate gate.now seat.now × (pass_held seat.now ≡ Inside number plainly.ver) × (plainly.decider.now ≡ decider_of gate.now) },
 }

@@ -1,7 +1,7 @@
 -- How managers stand as they are asked whether they acknowledge, and as a number is complete.
 use Rattle.std.proofs.Common.{◌≡◌, ℕ, zero, suc, ◌-◌, ◌<◌, Bool, true, false, List, [], ◌∷◌, ◌++◌, length, take, replicate, Option, Some, None, refl, sym, ap, subst, ◌∙◌, arith}
 use Rattle.std.specs.Prelude.{slice_get, ◌==◌, nat_lt, not, ◌&&◌, if◌then◌else◌, IfSome}
-use Rattle.std.specs.List.{Contains, list_all}
+use Rattle.std.specs.List.{list_all}
 use Rattle.std.proofs.lemmas.List.Elements.{Contains-push}
 use Rattle.std.proofs.lemmas.Option.{slice_get_within}
 use Rattle.std.proofs.lemmas.Bool.Decides.{nat_tests}
@@ -9,13 +9,14 @@ use Rattle.access_vectors.specs.Decisions.{Decisions}
 use Rattle.access_vectors.specs.Phases.{number_of, is_pending}
 use Rattle.access_vectors.specs.declared.phase.Phase.{Phase}
 use Rattle.access_vectors.specs.declared.phase.Phase.TheVariants.{Settled, Pending}
-use Rattle.manager_history.specs.Kept.{is_done, ack_answer}
+use Rattle.manager_history.specs.Kept.{is_done, ack_answer, force_answer}
 use Rattle.manager_history.specs.declared.answers.Ack.{Ack}
 use Rattle.manager_history.specs.declared.answers.Ack.TheVariants as acks
-use Rattle.managed.specs.Seen.{Seen, IsGrown, IsAcknowledged}
+use Rattle.managed.specs.Seen.{Seen, IsGrown, IsAcknowledged, answer_of}
+use Rattle.managed.specs.declared.managed.Shown.{Shown}
 use Rattle.managed.specs.declared.managed.Event.TheVariants.{Acknowledgement}
 use Rattle.security_server.specs.Numbering.{Kept, is_in, pending_of, receipt_fault, is_complete, are_all_in, completed}
-use Rattle.change_protocol.specs.Changes.{AreAll, MayBeIn, IsPlaced, IsLed, IsExpected, IsSameServer, IsAskedUnless, IsRound, IfComplete, phase_at, said_of, is_kept, is_idle, ack_all_answer}
+use Rattle.change_protocol.specs.Changes.{AreAll, HasAcknowledged, MayBeIn, IsPlaced, IsLed, IsExpected, IsSameServer, IsAskedUnless, IsRound, IfComplete, phase_at, said_of, is_kept, is_idle, is_busy, ack_all_answer}
 use Rattle.change_protocol.specs.declared.answers.Said.{Said}
 use Rattle.change_protocol.specs.declared.answers.AckAll.{AckAll}
 use Rattle.change_protocol.specs.declared.answers.AckAll.TheVariants as acking
@@ -69,20 +70,24 @@ kept_done (acks.Behind left) = refl
 kept_done acks.Idle = refl
 
 -- a manager with its notice is asked
-asked_reached : (number old new : ℕ) (was now : Seen) (ack : Ack) (done : Bool) → was.phase ≡ Pending number old new → IsAcknowledged was now ack → is_done ack ≡ done
-    → (now.phase ≡ (if done then Settled number new else Pending number old new)) × (done ≡ true → Contains now.history (Acknowledgement number))
-asked_reached number old new was now ack false pending asked is = (rw (is, pending) at asked.phase, λ e. cc)
-asked_reached number old new was now ack true pending asked is = (
+asked_reached : (forced : Bool) (number old new : ℕ) (was now : Seen) (ack : Ack) (done : Bool) → was.phase ≡ Pending number old new → IsAcknowledged forced was now ack → is_done ack ≡ done
+    → (now.phase ≡ (if done then Settled number new else Pending number old new)) × (done ≡ true → HasAcknowledged now.history number)
+asked_reached forced number old new was now ack false pending asked is = (rw (is, pending) at asked.phase, λ e. cc)
+asked_reached forced number old new was now ack true pending asked is = (
   rw (is, pending) at asked.phase,
   λ _.
-      let grown : IsGrown _ was.history now.history (Acknowledgement number ∷ []) = rw (is, pending) at asked.history in
-      rw grown.grown (Contains-push (was.history ++ grown.between) (Acknowledgement number)),
+      let grown : IsGrown _ was.history now.history (Acknowledgement number forced ∷ []) = rw (is, pending) at asked.history in
+      (forced, rw grown.grown (Contains-push (was.history ++ grown.between) (Acknowledgement number forced))),
 )
 
 -- one without is asked
-asked_unreached : (number old : ℕ) (was now : Seen) (ack : Ack) → was.phase ≡ Settled number old → IsAcknowledged was now ack → (is_done ack ≡ false) × (now.phase ≡ was.phase)
-asked_unreached number old was now ack settled asked =
-    let answer : ack ≡ acks.Idle = rw settled at asked.answer in
+idle_answer : (forced : Bool) (number old manager : ℕ) (shown : Shown) (ack : Ack) → ack ≡ answer_of forced (Settled number old) manager shown → ack ≡ acks.Idle
+idle_answer false number old manager shown ack is = is
+idle_answer true number old manager shown ack is = is
+
+asked_unreached : (forced : Bool) (number old : ℕ) (was now : Seen) (ack : Ack) → was.phase ≡ Settled number old → IsAcknowledged forced was now ack → (is_done ack ≡ false) × (now.phase ≡ was.phase)
+asked_unreached forced number old was now ack settled asked =
+    let answer : ack ≡ acks.Idle = idle_answer forced number old was.manager now.shown ack (rw settled at asked.answer) in
     let done : is_done ack ≡ false = ap is_done answer in
     (done, rw done at asked.phase)
 
@@ -97,15 +102,31 @@ not_idle number old new manager older found ack =
       ]
     ]
 
-module _ {Decider Manager : Type 0} (decides : Decider → Decisions) (seen : Manager → Seen) (same : Manager → Manager → Type 0) where
+not_idle_by : (forced : Bool) (number old new manager : ℕ) (shown : Shown) (ack : Ack) → ack ≡ answer_of forced (Pending number old new) manager shown → is_idle (said_of ack) ≡ false
+not_idle_by false number old new manager shown ack is = not_idle number old new manager shown.older shown.found ack is
+not_idle_by true number old new manager shown ack is = not_idle number old new manager 0 shown.found ack is
+
+-- one that is forced does not say that it is busy
+not_busy : (number old new manager found : ℕ) (ack : Ack) → ack ≡ force_answer (Pending number old new) manager found → is_busy (said_of ack) ≡ false
+not_busy number old new manager found ack =
+    elim (nat_lt 0 found) as (λ (b : Bool). ack ≡ (if b then acks.Behind found else acks.Done (record { manager = manager; number = number })) → is_busy (said_of ack) ≡ false) [
+      | true ↦ λ is. ap (λ a. is_busy (said_of a)) is
+      | false ↦ λ is. ap (λ a. is_busy (said_of a)) is
+    ]
+
+never_busy : (phase : Phase) (manager : ℕ) (shown : Shown) (ack : Ack) → ack ≡ answer_of true phase manager shown → is_busy (said_of ack) ≡ false
+never_busy (Settled number old) manager shown ack is = ap (λ a. is_busy (said_of a)) is
+never_busy (Pending number old new) manager shown ack is = not_busy number old new manager shown.found ack is
+
+module _ {Decider Manager : Type 0} (decides : Decider → Decisions) (seen : Manager → Seen) (same : Manager → Manager → Type 0) (forced : Bool) where
   -- how a manager stands after the question
   asked_placed : (versions : ℕ) (server mid : Kept Decider) (number old new reached place : ℕ) (was now : Manager) (said : Said)
       → server.phase ≡ Pending number old new → IsSameServer server mid → IsPlaced versions server reached place (seen was)
-      → IsRound seen same (is_in server.receipts place) (is_in mid.receipts place) was now said → IsPlaced versions mid reached place (seen now)
+      → IsRound seen same forced (is_in server.receipts place) (is_in mid.receipts place) was now said → IsPlaced versions mid reached place (seen now)
   asked_placed versions server mid number old new reached place was now said pending kept placed round =
       let at : (seen was).phase ≡ phase_at (Pending number old new) server.receipts reached place = placed.phase ∙ ap (λ p. phase_at p server.receipts reached place) pending in
       let pending_mid : mid.phase ≡ Pending number old new = kept.phase ∙ pending in
-      elim (is_in server.receipts place) as (λ (b : Bool). is_in server.receipts place ≡ b → IsAskedUnless seen b was now said → IsPlaced versions mid reached place (seen now)) [
+      elim (is_in server.receipts place) as (λ (b : Bool). is_in server.receipts place ≡ b → IsAskedUnless seen forced b was now said → IsPlaced versions mid reached place (seen now)) [
         | true ↦ λ was_in asked.
             let in_mid : is_in mid.receipts place ≡ true = round.now_in ∙ ap is_kept asked.1 in
             rw asked.0 (record {
@@ -116,11 +137,11 @@ module _ {Decider Manager : Type 0} (decides : Decider → Decisions) (seen : Ma
               receipt = λ _. rw kept.phase (placed.receipt was_in);
             })
         | false ↦ λ out asked.
-            let told : IsAcknowledged (seen was) (seen now) asked.ack = asked.acknowledged in
+            let told : IsAcknowledged forced (seen was) (seen now) asked.ack = asked.acknowledged in
             let in_mid : is_in mid.receipts place ≡ is_done asked.ack = round.now_in ∙ ap is_kept asked.said_is ∙ kept_done asked.ack in
             elim (nat_lt place reached) as (λ (b : Bool). nat_lt place reached ≡ b → IsPlaced versions mid reached place (seen now)) [
               | true ↦ λ is.
-                  let done = asked_reached number old new (seen was) (seen now) asked.ack (is_done asked.ack) (rw (is, out) at at) told refl in
+                  let done = asked_reached forced number old new (seen was) (seen now) asked.ack (is_done asked.ack) (rw (is, out) at at) told refl in
                   record {
                     numbered = told.same.manager ∙ placed.numbered;
                     most = told.same.most ∙ placed.most ∙ sym kept.most;
@@ -130,7 +151,7 @@ module _ {Decider Manager : Type 0} (decides : Decider → Decisions) (seen : Ma
                   }
               | false ↦ λ is.
                   let settled : (seen was).phase ≡ Settled (number - 1) old = rw is at at in
-                  let idle = asked_unreached (number - 1) old (seen was) (seen now) asked.ack settled told in
+                  let idle = asked_unreached forced (number - 1) old (seen was) (seen now) asked.ack settled told in
                   record {
                     numbered = told.same.manager ∙ placed.numbered;
                     most = told.same.most ∙ placed.most ∙ sym kept.most;
@@ -144,37 +165,36 @@ module _ {Decider Manager : Type 0} (decides : Decider → Decisions) (seen : Ma
   -- who says that it has no notice
   idle_at : (versions : ℕ) (server : Kept Decider) (number old new reached place : ℕ) (in_now : Bool) (was now : Manager) (said : Said)
       → server.phase ≡ Pending number old new → IsPlaced versions server reached place (seen was)
-      → IsRound seen same (is_in server.receipts place) in_now was now said → is_idle said ≡ not (nat_lt place reached)
+      → IsRound seen same forced (is_in server.receipts place) in_now was now said → is_idle said ≡ not (nat_lt place reached)
   idle_at versions server number old new reached place in_now was now said pending placed round =
       let at : (seen was).phase ≡ phase_at (Pending number old new) server.receipts reached place = placed.phase ∙ ap (λ p. phase_at p server.receipts reached place) pending in
-      elim (is_in server.receipts place) as (λ (b : Bool). is_in server.receipts place ≡ b → IsAskedUnless seen b was now said → is_idle said ≡ not (nat_lt place reached)) [
+      elim (is_in server.receipts place) as (λ (b : Bool). is_in server.receipts place ≡ b → IsAskedUnless seen forced b was now said → is_idle said ≡ not (nat_lt place reached)) [
         | true ↦ λ was_in asked.
             let may : MayBeIn (Pending number old new) reached place (seen was).history = rw pending at placed.receipt was_in in
             let below : nat_lt place reached ≡ true = grind (arith, nat_tests, may.0) in
             rw (below, asked.1) refl
         | false ↦ λ out asked.
-            let told : IsAcknowledged (seen was) (seen now) asked.ack = asked.acknowledged in
+            let told : IsAcknowledged forced (seen was) (seen now) asked.ack = asked.acknowledged in
             elim (nat_lt place reached) as (λ (b : Bool). nat_lt place reached ≡ b → is_idle said ≡ not b) [
               | true ↦ λ is.
                   let noticed : (seen was).phase ≡ Pending number old new = rw (is, out) at at in
-                  let answer : asked.ack ≡ ack_answer (Pending number old new) (seen was).manager (seen now).shown.older (seen now).shown.found = rw noticed at told.answer in
-                  ap is_idle asked.said_is ∙ not_idle number old new (seen was).manager (seen now).shown.older (seen now).shown.found asked.ack answer
+                  ap is_idle asked.said_is ∙ not_idle_by forced number old new (seen was).manager (seen now).shown asked.ack (rw noticed at told.answer)
               | false ↦ λ is.
                   let settled : (seen was).phase ≡ Settled (number - 1) old = rw is at at in
-                  let answer : asked.ack ≡ acks.Idle = rw settled at told.answer in
+                  let answer : asked.ack ≡ acks.Idle = idle_answer forced (number - 1) old (seen was).manager (seen now).shown asked.ack (rw settled at told.answer) in
                   ap is_idle asked.said_is ∙ ap (λ a. is_idle (said_of a)) answer
             ] refl
       ] refl round.asked
 
   pub idle_each : (server mid : Kept Decider) (xs ys : List Manager) (said : List Said) (reached number old new : ℕ)
       → IsLed decides seen (record { server = server; managers = xs; reached = reached }) → server.phase ≡ Pending number old new
-      → ((place : ℕ) → AreAll (IsRound seen same (is_in server.receipts place) (is_in mid.receipts place)) (slice_get xs place) (slice_get ys place) (slice_get said place))
+      → ((place : ℕ) → AreAll (IsRound seen same forced (is_in server.receipts place) (is_in mid.receipts place)) (slice_get xs place) (slice_get ys place) (slice_get said place))
       → (place : ℕ) → IfSome (slice_get said place) (λ one. is_idle one ≡ not (nat_lt place reached))
   idle_each server mid xs ys said reached number old new led pending each place =
       go (slice_get xs place) (slice_get ys place) (slice_get said place) (λ x is. is) (each place)
     where
       go : (was now : Option Manager) (there : Option Said) → ((x : Manager) → was ≡ Some x → slice_get xs place ≡ Some x)
-          → AreAll (IsRound seen same (is_in server.receipts place) (is_in mid.receipts place)) was now there
+          → AreAll (IsRound seen same forced (is_in server.receipts place) (is_in mid.receipts place)) was now there
           → IfSome there (λ one. is_idle one ≡ not (nat_lt place reached))
       go was now None stands all = tt
       go None None (Some s) stands all = absurd all
@@ -182,6 +202,27 @@ module _ {Decider Manager : Type 0} (decides : Decider → Decisions) (seen : Ma
       go (Some x) None (Some s) stands all = absurd all
       go (Some x) (Some y) (Some s) stands all =
           idle_at _ server number old new reached place (is_in mid.receipts place) x y s pending (led.placed place x (stands x refl)) all
+
+  -- who says that it is busy
+  busy_at : (was_in in_now : Bool) (was now : Manager) (said : Said) → forced ≡ true → IsRound seen same forced was_in in_now was now said → is_busy said ≡ false
+  busy_at was_in in_now was now said forces round = go was_in round.asked
+    where
+      go : (b : Bool) → IsAskedUnless seen forced b was now said → is_busy said ≡ false
+      go true asked = ap is_busy asked.1
+      go false asked = ap is_busy asked.said_is ∙ never_busy (seen was).phase (seen was).manager (seen now).shown asked.ack (rw forces at asked.acknowledged.answer)
+
+  pub busy_each : (server mid : Kept Decider) (xs ys : List Manager) (said : List Said) → forced ≡ true
+      → ((place : ℕ) → AreAll (IsRound seen same forced (is_in server.receipts place) (is_in mid.receipts place)) (slice_get xs place) (slice_get ys place) (slice_get said place))
+      → (place : ℕ) → IfSome (slice_get said place) (λ one. is_busy one ≡ false)
+  busy_each server mid xs ys said forces each place = go (slice_get xs place) (slice_get ys place) (slice_get said place) (each place)
+    where
+      go : (was now : Option Manager) (there : Option Said) → AreAll (IsRound seen same forced (is_in server.receipts place) (is_in mid.receipts place)) was now there
+          → IfSome there (λ one. is_busy one ≡ false)
+      go was now None all = tt
+      go None None (Some s) all = absurd all
+      go None (Some y) (Some s) all = absurd all
+      go (Some x) None (Some s) all = absurd all
+      go (Some x) (Some y) (Some s) all = busy_at (is_in server.receipts place) (is_in mid.receipts place) x y s forces all
 
   -- the server and its managers after all were asked, before the number is complete
   pub record IsCounted (mid : Kept Decider) (ys : List Manager) (said : List Said) (reached number : ℕ) : Type 0 where
@@ -195,7 +236,7 @@ module _ {Decider Manager : Type 0} (decides : Decider → Decisions) (seen : Ma
   pub counted : (server mid : Kept Decider) (xs ys : List Manager) (said : List Said) (reached number old new : ℕ)
       → IsLed decides seen (record { server = server; managers = xs; reached = reached }) → server.phase ≡ Pending number old new
       → IsSameServer server mid → length ys ≡ length xs → length said ≡ length xs
-      → ((place : ℕ) → AreAll (IsRound seen same (is_in server.receipts place) (is_in mid.receipts place)) (slice_get xs place) (slice_get ys place) (slice_get said place))
+      → ((place : ℕ) → AreAll (IsRound seen same forced (is_in server.receipts place) (is_in mid.receipts place)) (slice_get xs place) (slice_get ys place) (slice_get said place))
       → IsCounted mid ys said reached number
   counted server mid xs ys said reached number old new led pending kept ys_many said_many each =
       let pending_mid : mid.phase ≡ Pending number old new = kept.phase ∙ pending in
@@ -213,11 +254,11 @@ module _ {Decider Manager : Type 0} (decides : Decider → Decisions) (seen : Ma
           registered = ys_many ∙ led.registered ∙ sym kept.managers;
           within = rw kept.managers led.within;
           placed = λ place manager is.
-              let back = all_back (IsRound seen same (is_in server.receipts place) (is_in mid.receipts place)) _ _ _ manager (each place) is in
+              let back = all_back (IsRound seen same forced (is_in server.receipts place) (is_in mid.receipts place)) _ _ _ manager (each place) is in
               subst (λ (d : Decider). IsPlaced (decides d).versions mid reached place (seen manager)) (sym kept.decider)
               (asked_placed _ server mid number old new reached place back.0 manager back.1 pending kept (led.placed place back.0 back.2) back.4);
         };
-        ins = λ place manager is. let back = all_back (IsRound seen same (is_in server.receipts place) (is_in mid.receipts place)) _ _ _ manager (each place) is in (back.1, back.3, back.4.now_in);
+        ins = λ place manager is. let back = all_back (IsRound seen same forced (is_in server.receipts place) (is_in mid.receipts place)) _ _ _ manager (each place) is in (back.1, back.3, back.4.now_in);
         all_in =
             let same : (number == number) ≡ true = grind (arith, nat_tests) in
             let many : mid.managers ≡ length said = omega (arith, kept.managers, led.registered, said_many) in
@@ -229,7 +270,7 @@ module _ {Decider Manager : Type 0} (decides : Decider → Decisions) (seen : Ma
       }
     where
       said_in : (was now : Option Manager) (there : Option Said) (place : ℕ) (one : Said)
-          → AreAll (IsRound seen same (is_in server.receipts place) (is_in mid.receipts place)) was now there → there ≡ Some one → is_in mid.receipts place ≡ is_kept one
+          → AreAll (IsRound seen same forced (is_in server.receipts place) (is_in mid.receipts place)) was now there → there ≡ Some one → is_in mid.receipts place ≡ is_kept one
       said_in None None None place one all is = cc
       said_in None None (Some s) place one all is = absurd all
       said_in None (Some y) there place one all is = absurd all
@@ -261,7 +302,7 @@ module _ {Decider Manager : Type 0} (decides : Decider → Decisions) (seen : Ma
   -- where the number is complete each manager has its receipt in, has its notice and has acknowledged
   all_received : (mid : Kept Decider) (ys : List Manager) (said : List Said) (reached number : ℕ) → IsCounted mid ys said reached number → is_complete mid number ≡ true
       → (place : ℕ) (manager : Manager) → slice_get ys place ≡ Some manager
-      → (is_in mid.receipts place ≡ true) × (place < reached) × Contains (seen manager).history (Acknowledgement number)
+      → (is_in mid.receipts place ≡ true) × (place < reached) × HasAcknowledged (seen manager).history number
   all_received mid ys said reached number counted complete place manager is =
       let one = counted.ins place manager is in
       let there : is_in mid.receipts place ≡ true = one.2 ∙ kept_at said place one.0 (sym counted.all_in ∙ complete) one.1 in
@@ -300,15 +341,15 @@ module _ {Decider Manager : Type 0} (decides : Decider → Decisions) (seen : Ma
   -- a complete number has the acknowledgement of each manager
   pub complete_history : (mid : Kept Decider) (ys : List Manager) (said : List Said) (reached number : ℕ) (result : AckAll) → IsCounted mid ys said reached number
       → result ≡ (if is_complete mid number then acking.Complete number else acking.Waiting)
-      → IfComplete result (λ number. (place : ℕ) → IfSome (slice_get ys place) (λ manager. Contains (seen manager).history (Acknowledgement number)))
+      → IfComplete result (λ number. (place : ℕ) → IfSome (slice_get ys place) (λ manager. HasAcknowledged (seen manager).history number))
   complete_history mid ys said reached number result counted result_is =
       elim (is_complete mid number) as (λ (b : Bool). is_complete mid number ≡ b → result ≡ (if b then acking.Complete number else acking.Waiting)
-      → IfComplete result (λ number. (place : ℕ) → IfSome (slice_get ys place) (λ manager. Contains (seen manager).history (Acknowledgement number)))) [
+      → IfComplete result (λ number. (place : ℕ) → IfSome (slice_get ys place) (λ manager. HasAcknowledged (seen manager).history number))) [
         | false ↦ λ is e. rw e tt
         | true ↦ λ is e. rw e (λ place. go place is (slice_get ys place) (λ x there. there))
       ] refl result_is
     where
       go : (place : ℕ) → is_complete mid number ≡ true → (there : Option Manager) → ((x : Manager) → there ≡ Some x → slice_get ys place ≡ Some x)
-          → IfSome there (λ manager. Contains (seen manager).history (Acknowledgement number))
+          → IfSome there (λ manager. HasAcknowledged (seen manager).history number)
       go place complete None stands = tt
       go place complete (Some x) stands = (all_received mid ys said reached number counted complete place x (stands x refl)).2

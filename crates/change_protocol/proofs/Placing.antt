@@ -37,7 +37,7 @@ contains_grown alone old new added event grown there =
 pub stays_in : (phase : Phase) (reached place : ℕ) (alone : Bool) (old new added : List Event) → IsGrown alone old new added
     → MayBeIn phase reached place old → MayBeIn phase reached place new
 stays_in (Settled number version) reached place alone old new added grown may = may
-stays_in (Pending number first second) reached place alone old new added grown may = (may.0, contains_grown alone old new added _ grown may.1)
+stays_in (Pending number first second) reached place alone old new added grown may = (may.0, (may.1.0, contains_grown alone old new added _ grown may.1.1))
 
 module _ {Decider : Type 0} where
   pub updated_placed : (versions most reached place left : ℕ) (server : Kept Decider) (was now : Seen) → IsUpdated most was now left

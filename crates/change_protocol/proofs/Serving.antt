@@ -1,11 +1,10 @@
 -- How managers stand after a client's act at one of them.
-use Rattle.std.proofs.Common.{◌≡◌, ◌≢◌, ℕ, zero, suc, ◌<◌, List, [], ◌∷◌, length, Option, Some, None, refl, inl, inr, sym, ap, subst, ◌∙◌, arith}
+use Rattle.std.proofs.Common.{◌≡◌, ℕ, zero, suc, ◌<◌, List, [], ◌∷◌, length, Some, refl, inl, inr, ap, subst, ◌∙◌}
 use Rattle.std.specs.Prelude.{slice_get, slice_set, ◌⊎◌}
-use Rattle.std.proofs.lemmas.List.Elements.{All-nil}
 use Rattle.access_vectors.specs.Decisions.{Decisions}
 use Rattle.managed.specs.Seen.{Seen, IsServed}
 use Rattle.security_server.specs.Numbering.{Kept}
-use Rattle.change_protocol.specs.Changes.{AreBoth, IsPlaced, IsLed}
+use Rattle.change_protocol.specs.Changes.{IsPlaced, IsLed}
 use Rattle.change_protocol.proofs.Placing.{stays_in}
 
 -- a list with another value at a place is as long as before

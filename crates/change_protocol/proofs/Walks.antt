@@ -34,5 +34,5 @@ stand_at managers said receipts place =
     record { manager = slice_get managers place; said = slice_get said place; in_is = is_in receipts place }
 
 -- the manager there was asked, unless its receipt was in
-abbrev pub Rounds : {Manager : Type 0} → (Manager → Seen) → (Manager → Manager → Type 0) → ℕ → Stand Manager → Stand Manager → Type 0
-Rounds seen same place was now = AreAll (IsRound seen same was.in_is now.in_is) was.manager now.manager now.said
+abbrev pub Rounds : {Manager : Type 0} → (Manager → Seen) → (Manager → Manager → Type 0) → Bool → ℕ → Stand Manager → Stand Manager → Type 0
+Rounds seen same forced place was now = AreAll (IsRound seen same forced was.in_is now.in_is) was.manager now.manager now.said

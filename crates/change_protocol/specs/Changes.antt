@@ -36,11 +36,15 @@ phase_at (Pending number old new) receipts reached place =
     if nat_lt place reached then (if is_in receipts place then Settled number new else Pending number old new)
     else Settled (number - 1) old
 
+-- a history has the acknowledgement of a number, forced or not
+abbrev pub HasAcknowledged : List Event → ℕ → Type 0
+HasAcknowledged history number = (forced : Bool) × Contains history (Acknowledgement number forced)
+
 -- a receipt may be in only for a manager that has its notice, and whose history has the acknowledgement of the number; none
 -- is in where the server is settled
 abbrev pub MayBeIn : Phase → ℕ → ℕ → List Event → Type 0
 MayBeIn (Settled number version) reached place history = ⊥
-MayBeIn (Pending number old new) reached place history = (place < reached) × Contains history (Acknowledgement number)
+MayBeIn (Pending number old new) reached place history = (place < reached) × HasAcknowledged history number
 
 -- how the manager at a place has to stand: it has that place as its number, and the server's last policy number and number of
 -- versions
@@ -183,21 +187,26 @@ abbrev pub is_idle : Said → Bool
 is_idle saying.Idle = true
 is_idle other = false
 
--- a manager is asked whether it acknowledges, and says so
-pub record IsAsked {Manager : Type 0} (seen : Manager → Seen) (was now : Manager) (said : Said) : Type 0 where
+-- a manager says that older passes keep it back
+abbrev pub is_busy : Said → Bool
+is_busy (saying.Busy older) = true
+is_busy other = false
+
+-- a manager is asked whether it acknowledges, or forced to, and says so
+pub record IsAsked {Manager : Type 0} (seen : Manager → Seen) (forced : Bool) (was now : Manager) (said : Said) : Type 0 where
   pub ack : Ack
-  pub acknowledged : IsAcknowledged (seen was) (seen now) ack
+  pub acknowledged : IsAcknowledged forced (seen was) (seen now) ack
   pub said_is : said ≡ said_of ack
 
 -- one whose receipt is in is not asked
-abbrev pub IsAskedUnless : {Manager : Type 0} → (Manager → Seen) → Bool → Manager → Manager → Said → Type 0
-IsAskedUnless seen true was now said = (now ≡ was) × (said ≡ saying.Kept)
-IsAskedUnless seen false was now said = IsAsked seen was now said
+abbrev pub IsAskedUnless : {Manager : Type 0} → (Manager → Seen) → Bool → Bool → Manager → Manager → Said → Type 0
+IsAskedUnless seen forced true was now said = (now ≡ was) × (said ≡ saying.Kept)
+IsAskedUnless seen forced false was now said = IsAsked seen forced was now said
 
 -- a manager is asked unless its receipt is in, and after that the receipt is in exactly where it says that it is kept
-pub record IsRound {Manager : Type 0} (seen : Manager → Seen) (same : Manager → Manager → Type 0) (was_in is_in_now : Bool)
+pub record IsRound {Manager : Type 0} (seen : Manager → Seen) (same : Manager → Manager → Type 0) (forced was_in is_in_now : Bool)
     (was now : Manager) (said : Said) : Type 0 where
-  pub asked : IsAskedUnless seen was_in was now said
+  pub asked : IsAskedUnless seen forced was_in was now said
   pub same_is : same was now
   pub now_in : is_in_now ≡ is_kept said
 

@@ -1,10 +1,8 @@
 //! The coordinator of a change over all managers.
 
 ghost use Rattle.std.specs.Prelude.{◌≡◌, ◌<◌, ℕ, false, true, length, slice_get, is_some, not, nat_lt, IfSome, IfOk, IfErr, OnOk, OnErr};
-ghost use Rattle.std.specs.List.{Contains};
 ghost use Rattle.access_vectors.specs.Phases.{is_pending};
 ghost use Rattle.managed.specs.Seen.{IsUpdated};
-ghost use Rattle.managed.specs.declared.managed.Event.{Event};
 ghost use Rattle.security_server.specs.Numbering.{is_in};
 ghost use Rattle.change_protocol.specs.Changes;
 
@@ -107,7 +105,7 @@ impl<'d, D: Decider, M: Managed> Coordinator<'d, D, M> {
         ensures idle { is_pending self.old.server.phase ≡ false → self.new ≡ self.old }
         ensures idle_said { is_pending self.old.server.phase ≡ false → said.new ≡ said.old }
         ensures asked { is_pending self.old.server.phase ≡ true
-            → (place : ℕ) → Changes.AreAll (Changes.IsAskedUnless M.seen (is_in self.old.server.receipts place))
+            → (place : ℕ) → Changes.AreAll (Changes.IsAskedUnless M.seen false (is_in self.old.server.receipts place))
             (slice_get self.old.managers place) (slice_get self.new.managers place) (slice_get said.new place) }
         ensures many { length self.new.managers ≡ length self.old.managers }
         ensures same { (place : ℕ) → Changes.AreBoth M.same (slice_get self.old.managers place) (slice_get self.new.managers place) }
@@ -115,7 +113,67 @@ impl<'d, D: Decider, M: Managed> Coordinator<'d, D, M> {
         ensures unreached { is_pending self.old.server.phase ≡ true
             → (place : ℕ) → IfSome (slice_get said.new place) (λ one. Changes.is_idle one ≡ not (nat_lt place self.old.reached)) }
         ensures complete { Changes.IfComplete result (λ number. (place : ℕ)
-            → IfSome (slice_get self.new.managers place) (λ manager. Contains (M.seen manager).history (Event.Acknowledgement number))) }
+            → IfSome (slice_get self.new.managers place) (λ manager. Changes.HasAcknowledged (M.seen manager).history number)) }
+        ensures receipts { result ≡ AckAll.Waiting
+            → (place : ℕ) → IfSome (slice_get said.new place) (λ one. is_in self.new.server.receipts place ≡ Changes.is_kept one) }
+        ensures phase { self.new.server.phase ≡ Changes.phase_after result self.old.server.phase }
+        ensures decider { self.new.server.decider ≡ self.old.server.decider }
+        ensures managers { self.new.server.managers ≡ self.old.server.managers }
+        ensures most { self.new.server.most ≡ self.old.server.most }
+        ensures reached { self.new.reached ≡ self.old.reached }
+    {
+        self.ask_all(rt, false, said)
+    }
+
+    /// Forces each manager whose receipt is not in to acknowledge, puts what each says at its place, and completes the number
+    /// where every receipt is in. None says that it is busy. `Idle` exactly where nothing is proposed; then it forces none,
+    /// and `said` stays. It takes no memory.
+    pub fn force_all<R: Wait>(&mut self, rt: &R, said: &mut [Said]) -> AckAll
+        requires { length said.old ≡ length self.old.managers }
+        ensures answer { result ≡ Changes.ack_all_answer self.old.server.phase said.new }
+        ensures idle { is_pending self.old.server.phase ≡ false → self.new ≡ self.old }
+        ensures idle_said { is_pending self.old.server.phase ≡ false → said.new ≡ said.old }
+        ensures asked { is_pending self.old.server.phase ≡ true
+            → (place : ℕ) → Changes.AreAll (Changes.IsAskedUnless M.seen true (is_in self.old.server.receipts place))
+            (slice_get self.old.managers place) (slice_get self.new.managers place) (slice_get said.new place) }
+        ensures many { length self.new.managers ≡ length self.old.managers }
+        ensures same { (place : ℕ) → Changes.AreBoth M.same (slice_get self.old.managers place) (slice_get self.new.managers place) }
+        ensures was_led { Changes.IsLed D.decides M.seen self.old }
+        ensures unreached { is_pending self.old.server.phase ≡ true
+            → (place : ℕ) → IfSome (slice_get said.new place) (λ one. Changes.is_idle one ≡ not (nat_lt place self.old.reached)) }
+        ensures never_busy { is_pending self.old.server.phase ≡ true
+            → (place : ℕ) → IfSome (slice_get said.new place) (λ one. Changes.is_busy one ≡ false) }
+        ensures complete { Changes.IfComplete result (λ number. (place : ℕ)
+            → IfSome (slice_get self.new.managers place) (λ manager. Changes.HasAcknowledged (M.seen manager).history number)) }
+        ensures receipts { result ≡ AckAll.Waiting
+            → (place : ℕ) → IfSome (slice_get said.new place) (λ one. is_in self.new.server.receipts place ≡ Changes.is_kept one) }
+        ensures phase { self.new.server.phase ≡ Changes.phase_after result self.old.server.phase }
+        ensures decider { self.new.server.decider ≡ self.old.server.decider }
+        ensures managers { self.new.server.managers ≡ self.old.server.managers }
+        ensures most { self.new.server.most ≡ self.old.server.most }
+        ensures reached { self.new.reached ≡ self.old.reached }
+    {
+        self.ask_all(rt, true, said)
+    }
+
+    /// Asks each manager whose receipt is not in whether it acknowledges, or forces it to.
+    fn ask_all<R: Wait>(&mut self, rt: &R, forced: bool, said: &mut [Said]) -> AckAll
+        requires { length said.old ≡ length self.old.managers }
+        ensures answer { result ≡ Changes.ack_all_answer self.old.server.phase said.new }
+        ensures idle { is_pending self.old.server.phase ≡ false → self.new ≡ self.old }
+        ensures idle_said { is_pending self.old.server.phase ≡ false → said.new ≡ said.old }
+        ensures asked { is_pending self.old.server.phase ≡ true
+            → (place : ℕ) → Changes.AreAll (Changes.IsAskedUnless M.seen forced (is_in self.old.server.receipts place))
+            (slice_get self.old.managers place) (slice_get self.new.managers place) (slice_get said.new place) }
+        ensures many { length self.new.managers ≡ length self.old.managers }
+        ensures same { (place : ℕ) → Changes.AreBoth M.same (slice_get self.old.managers place) (slice_get self.new.managers place) }
+        ensures was_led { Changes.IsLed D.decides M.seen self.old }
+        ensures unreached { is_pending self.old.server.phase ≡ true
+            → (place : ℕ) → IfSome (slice_get said.new place) (λ one. Changes.is_idle one ≡ not (nat_lt place self.old.reached)) }
+        ensures never_busy { is_pending self.old.server.phase ≡ true → forced ≡ true
+            → (place : ℕ) → IfSome (slice_get said.new place) (λ one. Changes.is_busy one ≡ false) }
+        ensures complete { Changes.IfComplete result (λ number. (place : ℕ)
+            → IfSome (slice_get self.new.managers place) (λ manager. Changes.HasAcknowledged (M.seen manager).history number)) }
         ensures receipts { result ≡ AckAll.Waiting
             → (place : ℕ) → IfSome (slice_get said.new place) (λ one. is_in self.new.server.receipts place ≡ Changes.is_kept one) }
         ensures phase { self.new.server.phase ≡ Changes.phase_after result self.old.server.phase }
@@ -127,7 +185,7 @@ impl<'d, D: Decider, M: Managed> Coordinator<'d, D, M> {
         let Some((number, _version)) = self.server.pending() else {
             return AckAll::Idle;
         };
-        rounds::ack_each(rt, &mut self.server, &mut self.managers, said);
+        rounds::ack_each(rt, forced, &mut self.server, &mut self.managers, said);
         rounds::complete_or_wait(&mut self.server, number)
     }
 

@@ -1,7 +1,7 @@
 //! One round over the managers: of notices, of updates, of questions whether they acknowledge.
 
 ghost use Rattle.std.specs.Prelude.{◌≡◌, ◌≢◌, ℕ, ◌<◌, ◌≤◌, length, slice_get, vec_len, None, Some, false, IfSome, IfOk, IfErr, OnOk, OnErr, if◌then◌else◌};
-ghost use Rattle.managed.specs.Seen.{IsUpdated};
+ghost use Rattle.managed.specs.Seen.{IsUpdated, IsAcknowledged};
 ghost use Rattle.security_server.specs.Numbering.{is_in, with_receipt, is_complete, completed};
 ghost use Rattle.change_protocol.specs.Changes;
 
@@ -119,14 +119,30 @@ pub(crate) fn update_each<M: Managed, R: Wait>(
     }
 }
 
-/// Asks a manager whether it acknowledges, and collects its receipt where it does.
-fn ask<D: Decider, M: Managed, R: Wait>(rt: &R, server: &mut Server<'_, D>, manager: &mut M) -> Said
+/// Asks a manager whether it acknowledges, or forces it to.
+fn acknowledge<M: Managed, R: Wait>(rt: &R, forced: bool, manager: &mut M) -> Ack
+    ensures acknowledged { IsAcknowledged forced (M.seen manager.old) (M.seen manager.new) result }
+    ensures same { M.same manager.old manager.new }
+{
+    if forced {
+        return manager.force(rt);
+    }
+    manager.acknowledge(rt)
+}
+
+/// Asks a manager whether it acknowledges, or forces it to, and collects its receipt where it does.
+fn ask<D: Decider, M: Managed, R: Wait>(
+    rt: &R,
+    forced: bool,
+    server: &mut Server<'_, D>,
+    manager: &mut M,
+) -> Said
     requires { Changes.IsExpected server.old (M.seen manager.old) }
-    ensures asked { Changes.IsAsked M.seen manager.old manager.new result }
+    ensures asked { Changes.IsAsked M.seen forced manager.old manager.new result }
     ensures same { M.same manager.old manager.new }
     ensures collected { server.new ≡ (if Changes.is_kept result then with_receipt server.old (M.seen manager.old).manager else server.old) }
 {
-    match manager.acknowledge(rt) {
+    match acknowledge(rt, forced, manager) {
         Ack::Done(receipt) => {
             let _ = server.collect(receipt);
             Said::Kept
@@ -137,9 +153,10 @@ fn ask<D: Decider, M: Managed, R: Wait>(rt: &R, server: &mut Server<'_, D>, mana
     }
 }
 
-/// Asks the manager with that number, unless its receipt is in.
+/// Asks the manager with that number, or forces it, unless its receipt is in.
 fn ask_unless_in<D: Decider, M: Managed, R: Wait>(
     rt: &R,
+    forced: bool,
     server: &mut Server<'_, D>,
     manager: &mut M,
     number: u8,
@@ -149,19 +166,20 @@ fn ask_unless_in<D: Decider, M: Managed, R: Wait>(
     requires expected { is_in server.old.receipts number ≡ false → Changes.IsExpected server.old (M.seen manager.old) }
     ensures round { let old = is_in server.old.receipts number in
         let new = is_in server.new.receipts number in
-        Changes.IsRound M.seen M.same old new manager.old manager.new result }
+        Changes.IsRound M.seen M.same forced old new manager.old manager.new result }
     ensures others { (other : ℕ) → other ≢ number → is_in server.new.receipts other ≡ is_in server.old.receipts other }
     ensures server { Changes.IsSameServer server.old server.new }
 {
     if server.received(number) {
         return Said::Kept;
     }
-    ask(rt, server, manager)
+    ask(rt, forced, server, manager)
 }
 
-/// Asks each manager whose receipt is not in, collects the receipts, and puts what each says at its place.
+/// Asks each manager whose receipt is not in, or forces it, collects the receipts, and puts what each says at its place.
 pub(crate) fn ack_each<D: Decider, M: Managed, R: Wait>(
     rt: &R,
+    forced: bool,
     server: &mut Server<'_, D>,
     managers: &mut Vec<M>,
     said: &mut [Said],
@@ -174,11 +192,11 @@ pub(crate) fn ack_each<D: Decider, M: Managed, R: Wait>(
     ensures len { vec_len managers.new ≡ vec_len managers.old }
     ensures said_len { length said.new ≡ length said.old }
     ensures server { Changes.IsSameServer server.old server.new }
-    ensures each { (place : ℕ) → Changes.AreAll (Changes.IsRound M.seen M.same (is_in server.old.receipts place) (is_in server.new.receipts place))
+    ensures each { (place : ℕ) → Changes.AreAll (Changes.IsRound M.seen M.same forced (is_in server.old.receipts place) (is_in server.new.receipts place))
         (slice_get managers.old.items place) (slice_get managers.new.items place) (slice_get said.new place) }
 {
     for place in 0..managers.len() {
-        said[place] = ask_unless_in(rt, server, &mut managers[place], place as u8);
+        said[place] = ask_unless_in(rt, forced, server, &mut managers[place], place as u8);
     }
 }
 

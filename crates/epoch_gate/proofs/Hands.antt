@@ -54,6 +54,11 @@ module _ {V E D O : Type 0} (M : Means V E D O) (decides : D → Decisions) (k :
       let found : m.0.trace.last.found ≡ n = ap (λ (z : Me (Option V) (View E D O)). z.0.trace.last.found) is in
       is ∙ (λ i. (gave M y (same i) (sym found i), []))
 
+  -- what the word showed then
+  pub found_after : (me me' m : Me (Option V) (View E D O)) (y : V) (n : ℕ) → me.1 ≡ (0, None) ∷ [] → me' ≡ (me.0, (0, Some y) ∷ rest me.1) → ((z : V) → me'.1 ≡ (0, Some z) ∷ [] → m ≡ (gave M z me'.0 n, [])) → m.0.trace.last.found ≡ n
+  found_after me me' m y n empty after told =
+      ap (λ (z : Me (Option V) (View E D O)). z.0.trace.last.found) (told y (ap (λ (z : Me (Option V) (View E D O)). z.1) after ∙ ap (λ (l : List (ℕ × Option V)). (0, Some y) ∷ rest l) empty))
+
   -- looking at the row of the key that the step picks
   pub see : (slots id : ℕ) (me : Me (Option V) (View E D O)) (n : ℕ) → me.0.role ≡ Caller n → IsInside me.0.rights.pass → {sought : Key} (key : Key) → sought ≡ key → IsKey key
       → (i : ℕ) → 5 ≤ i → i < 517 → Allows (Kept M decides k) slots id me i (λ w. w) (told.sees_row M decides sought (step slots i 0 0 none) me)

@@ -5,22 +5,23 @@ use lib.ListN.{get_elem?}
 use Rattle.atomic_table.specs.Table.{State}
 use Rattle.access_vectors.specs.Decisions.{Decisions}
 use Rattle.gate_rule.specs.declared.journal.Terms.{Terms}
-use Rattle.gate_rule.specs.declared.view.Role.TheVariants.{Admin}
-use Rattle.gate_rule.specs.declared.view.Pass.TheVariants.{Inside}
+use Rattle.gate_rule.specs.declared.view.Role.TheVariants.{Caller, Admin}
+use Rattle.gate_rule.specs.declared.view.Ticket.TheVariants.{Drawn}
+use Rattle.gate_rule.specs.declared.view.Item.{Item}
 use Rattle.gate_rule.specs.declared.view.Key.{Key}
 use Rattle.gate_rule.specs.declared.view.Trace.{Trace}
 use Rattle.gate_rule.specs.declared.view.View.{View}
-use Rattle.gate_rule.specs.History.{Kind, of_caller, controls, last_notice, settled_in, StartsWith}
-use Rattle.gate_rule.specs.History.Kind.{Call}
+use Rattle.gate_rule.specs.History.{Kind, last_notice, StartsWith}
 use Rattle.gate_rule.specs.Meaning.{Means}
 use Rattle.gate_rule.specs.Rule.{Kept, IsOf, fixed_of}
 use Rattle.gate_rule.specs.Tickets.{word_of}
 use Rattle.gate_rule.specs.Rows.{key_word, key_row, shows}
 use Rattle.gate_rule.specs.Views as views
-use Rattle.gate_rule.specs.Views.{number_in, entries_of, one_more, done, traced, with_seat, new_seat, first_seat, with_ended, glanced}
-use Rattle.gate_rule.specs.Told.{Stood, Closes, IsAllowed, IsOwn}
+use Rattle.gate_rule.specs.Views.{number_in, one_more, done, traced, with_seat, new_seat, first_seat, with_ended, glanced}
+use Rattle.gate_rule.specs.Told.{Stood, Closes, Learns, LearnsAdmin, Grows}
 use Rattle.epoch_gate.specs.Seats.{Shown, Site}
-use Rattle.epoch_gate.specs.Known.{seen_by, own_entries, caller_number, pass_held, pass_number, last_step, found_last, current_number, current_version, turns_had}
+use Rattle.epoch_gate.specs.Known.{seen_by, caller_number, pass_held, pass_number, quota_left, keys_served, last_step, found_last}
+use Rattle.epoch_gate.specs.Known.{current_number, current_version, passes_counted, cleared_below, seats_made, seats_retired, turns_had}
 
 -- a trace with so many looks more at the ticket served, none of which showed this ticket
 abbrev pub HasMissed : Trace → ℕ → ℕ → Trace → Type 0
@@ -80,6 +81,31 @@ module _ {E D O : Type 0} where
   abbrev pub HasRetired : Shown E D O → Shown E D O → Shown E D O → Type 0
   HasRetired a s b = b.view ≡ glanced (with_ended a.view s.view) (found_last b)
 
+  -- one turn was had: one ticket was drawn, and looked for until it was served; one item was added to the turns; and the last step passed the turn on
+  pub record HasHadTurn (s t : Shown E D O) : Type 0 where
+    pub ticket : ℕ
+    pub taken : Trace
+    pub waited : HasLookedUntil (traced s.view.trace (done 3 ticket (one_more ticket))) ticket taken
+    pub item : Item E
+    pub once : turns_had t ≡ turns_had s ++ item ∷ []
+    pub passed : last_step t ≡ done 4 (found_last t) (one_more (found_last t))
+
+  -- the caller's number, pass, quota and keys served are as before
+  pub record IsSameCaller (s t : Shown E D O) : Type 0 where
+    pub number : caller_number t ≡ caller_number s
+    pub pass : pass_held t ≡ pass_held s
+    pub quota : quota_left t ≡ quota_left s
+    pub keys : keys_served t ≡ keys_served s
+
+  -- the seats that the administrator made and retired, its current number with its version, and the passes counted and cleared are as before
+  pub record IsSameAdmin (a b : Shown E D O) : Type 0 where
+    pub made : seats_made b ≡ seats_made a
+    pub retired : seats_retired b ≡ seats_retired a
+    pub number : current_number b ≡ current_number a
+    pub version : current_version b ≡ current_version a
+    pub counted : passes_counted b ≡ passes_counted a
+    pub cleared : cleared_below b ≡ cleared_below a
+
 module _ {E D O : Type 0} (kind : E → Kind) where
   -- the seat entered: it has a pass of the number and version found, one less to enter, and the number is not below the last notice that it has seen
   abbrev pub HasEntered : Shown E D O → Shown E D O → Type 0
@@ -87,13 +113,11 @@ module _ {E D O : Type 0} (kind : E → Kind) where
 
   -- a history that a caller may give back: the one seen, with at most one entry more, a call under its own and its pass's number
   abbrev pub ExtendsAsCaller : Shown E D O → List E → Type 0
-  ExtendsAsCaller s log =
-      (log ≡ seen_by s)
-      ⊎ ((e : E) × (log ≡ seen_by s ++ e ∷ []) × (mark : ℕ) × (number : ℕ) × (version : ℕ) × (pass_held s ≡ Inside number version) × (kind e ≡ Call (caller_number s) mark number))
+  ExtendsAsCaller s log = Grows kind s.view (Caller (caller_number s)) log
 
   -- a history that the administrator may give back: the one seen, with at most one entry more, an own one; the last notice is that of its current number
   abbrev pub ExtendsAsAdmin : Shown E D O → List E → Type 0
-  ExtendsAsAdmin a log = ((log ≡ seen_by a) ⊎ ((e : E) × (log ≡ seen_by a ++ e ∷ []) × IsOwn kind a.view Admin e)) × (last_notice kind log ≡ (current_number a, current_version a))
+  ExtendsAsAdmin a log = Grows kind a.view Admin log × (last_notice kind log ≡ (current_number a, current_version a))
 
 module _ {V E D O : Type 0} (M : Means V E D O) where
   -- a value of the gate: its opening and decider are the gate's, its history is one that its type promises, and it is as its type promises
@@ -110,13 +134,11 @@ module _ {V E D O : Type 0} (M : Means V E D O) where
 
   -- what a caller learns with the turn: what it had seen is how the history begins, its entries are all of its number, and its pass is one that the history allows
   abbrev pub LearnsAsCaller : Shown E D O → V → Type 0
-  LearnsAsCaller s x = StartsWith (M.history x) (seen_by s) × (own_entries s ≡ of_caller M.kind (caller_number s) (M.history x)) × IsAllowed M.kind (pass_held s) (M.history x)
+  LearnsAsCaller s x = StartsWith (M.history x) (seen_by s) × Learns M.kind s.view (Caller (caller_number s)) (M.history x)
 
-  -- what the administrator learns with the turn: the last notice is that of its current number, its turns' entries are all notices and acknowledgements, and the number is settled or is pending
+  -- what the administrator learns with the turn: what it had seen is how the history begins, and of the history what the rule says that it knows
   abbrev pub LearnsAsAdmin : Shown E D O → V → Type 0
-  LearnsAsAdmin a x =
-      StartsWith (M.history x) (seen_by a) × (last_notice M.kind (M.history x) ≡ (current_number a, current_version a)) × (controls M.kind (M.history x) ≡ entries_of (turns_had a))
-      × ((settled_in M.kind (M.history x) ≡ current_number a) ⊎ (current_number a ≡ settled_in M.kind (M.history x) + 1))
+  LearnsAsAdmin a x = StartsWith (M.history x) (seen_by a) × LearnsAdmin M.kind a.view.desk (seen_by a) (M.history x)
 
   -- what the administrator knows of the value with which the gate ends
   abbrev pub HasClosed : Shown E D O → V → Type 0
@@ -126,6 +148,18 @@ module _ {V E D O : Type 0} (M : Means V E D O) (decides : D → Decisions) wher
   -- at the step of the call the table met the whole rule, this view was the seat's, and the word was this one
   abbrev pub StoodAt : Site D O → Shown E D O → ℕ → ℕ → Type 0
   StoodAt g s word n = Stood M decides g.fixed s.view word n
+
+  -- when the turn came the table met the whole rule, the seat's view was the old one with its ticket and what its looks had left of its trace, and its ticket was the one served
+  abbrev pub StoodWaiting : Site D O → Shown E D O → Shown E D O → Type 0
+  StoodWaiting g s t = let ticket = word_of t.view.ticket in (trace : Trace) × Stood M decides g.fixed (record s.view { ticket = Drawn ticket; trace = trace }) 4 ticket
+
+  -- once a seat was made the table met the whole rule, the administrator's view was the old one with one seat more, and the glance found the gate word
+  abbrev pub StoodMade : Site D O → Shown E D O → Shown E D O → Type 0
+  StoodMade g a b = Stood M decides g.fixed (with_seat a.view) 0 (found_last b)
+
+  -- once a seat was retired the table met the whole rule, the administrator's view was the old one with what the seat knew, and the glance found the gate word
+  abbrev pub StoodRetired : Site D O → Shown E D O → Shown E D O → Shown E D O → Type 0
+  StoodRetired g a s b = Stood M decides g.fixed (with_ended a.view s.view) 0 (found_last b)
 
   -- at the end the table met the whole rule, and this view was the administrator's
   abbrev pub HasEnded : Site D O → Shown E D O → Type 0

@@ -1,5 +1,5 @@
 -- What a gate, a seat and the administrator know, in words.
-use Rattle.std.specs.Prelude.{◌≡◌, ◌≢◌, ℕ, true, List, Option, Some}
+use Rattle.std.specs.Prelude.{◌≡◌, ◌≢◌, ℕ, ◌≤◌, true, List, Option, Some}
 use Rattle.access_vectors.specs.Decisions.{Decisions}
 use Rattle.gate_rule.specs.declared.view.Role.TheVariants.{Caller}
 use Rattle.gate_rule.specs.declared.view.Ticket.TheVariants.{Without}
@@ -141,7 +141,7 @@ module _ {E D O : Type 0} where
   abbrev pub stale_left : Shown E D O → ℕ
   stale_left a = a.view.desk.left
 
-  -- the turns that it had, newest last
+  -- the turns that a seat had, newest last
   abbrev pub turns_had : Shown E D O → List (Item E)
   turns_had a = a.view.desk.turns
 
@@ -152,6 +152,10 @@ module _ {E D O : Type 0} where
   -- in the history seen the current number is still to be settled
   abbrev pub IsUnsettled : (E → Kind) → Shown E D O → Type 0
   IsUnsettled kind a = settled_in kind (seen_by a) ≢ current_number a
+
+  -- the administrator made at most as many seats as its gate may have, and its current number is at most the greatest
+  abbrev pub IsWithin : Shown E D O → Type 0
+  IsWithin a = (f : Fixed D O) → a.view.fixed ≡ Some f → (seats_made a ≤ f.seats) × (current_number a ≤ f.most)
 
   -- its pass, if it has one, is within what its gate fixes
   abbrev pub HasPassWithin : (D → Decisions) → Shown E D O → Type 0

@@ -1,6 +1,6 @@
 //! The administrator's seat.
 ghost use Rattle.std.specs.Prelude.{◌≡◌, ◌+◌, length};
-ghost use Rattle.epoch_gate.specs.Known.{seats_made, seats_retired};
+ghost use Rattle.epoch_gate.specs.Known.{seats_made, seats_retired, current_number, current_version, IsWithin};
 
 use access_vectors::Decider;
 use gate_rule::{Journal, Place};
@@ -34,5 +34,15 @@ impl<V: Journal<D>, D: Decider> Admin<V, D> {
         ensures { result + length (seats_retired self.now) ≡ seats_made self.now }
     {
         self.made - self.retired
+    }
+
+    /// The current policy number and its version. The number is at most the greatest of the gate, and there are at
+    /// most as many seats as the gate may have.
+    pub fn current(&self) -> (u32, u8)
+        ensures number { result.0 ≡ current_number self.now }
+        ensures version { result.1 ≡ current_version self.now }
+        ensures within { IsWithin self.now }
+    {
+        (self.number, self.version)
     }
 }

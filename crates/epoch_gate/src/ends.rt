@@ -72,6 +72,7 @@ impl<'d, V: Journal<D>, D: Decider> Gate<'d, V, D> {
             decider,
             seats,
             quota,
+            most,
         };
         let admin = Admin {
             place,

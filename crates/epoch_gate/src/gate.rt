@@ -1,7 +1,8 @@
 //! The gate, and what callers do at it.
 ghost use Rattle.std.specs.Prelude.{◌≡◌, ◌↔◌, Some, OnOk, OnErr, IsErr};
 ghost use Rattle.epoch_gate.specs.Seats.{IsOfGate};
-ghost use Rattle.epoch_gate.specs.Known.{decider_of, HasPass, HasNoPass, quota_left, found_last};
+ghost use Rattle.gate_rule.specs.Views.{leave_word};
+ghost use Rattle.epoch_gate.specs.Known.{decider_of, greatest_number, HasPass, HasNoPass, pass_number, quota_left, found_last};
 ghost use Rattle.epoch_gate.specs.Calls.{HasEntered, HasLeft, StoodAt};
 
 use crate::seat::Seat;
@@ -20,6 +21,7 @@ pub struct Gate<'d, V: Journal<D>, D: Decider> {
     pub(crate) decider: &'d D,
     pub(crate) seats: u8,
     pub(crate) quota: u32,
+    pub(crate) most: u32,
 }
 
 impl<'d, V: Journal<D>, D: Decider> Model for Gate<'d, V, D> {
@@ -31,7 +33,7 @@ impl<'d, V: Journal<D>, D: Decider> Model for Gate<'d, V, D> {
 
     ghost view = { λ g. record { table = g.table.shared.table_id; fixed = fixed_of V.means g.table.shared.key } };
 
-    ghost invariant = { λ g. (g.table.shared.table_id.words ≡ 517) × (g.table.shared.table_id.slots ≡ 1) × (g.table.shared.key.decider.value ≡ g.decider.now) × (g.table.shared.key.seats ≡ g.seats) × (g.table.shared.key.quota ≡ g.quota) × (g.table.shared.key.most < 1048576) };
+    ghost invariant = { λ g. (g.table.shared.table_id.words ≡ 517) × (g.table.shared.table_id.slots ≡ 1) × (g.table.shared.key.decider.value ≡ g.decider.now) × (g.table.shared.key.seats ≡ g.seats) × (g.table.shared.key.quota ≡ g.quota) × (g.table.shared.key.most ≡ g.most) × (g.most < 1048576) };
 }
 
 /// The seat has entered as often as it may.
@@ -44,6 +46,13 @@ impl<'d, V: Journal<D>, D: Decider> Gate<'d, V, D> {
         ensures { result.now ≡ decider_of self.now }
     {
         self.decider
+    }
+
+    /// The greatest policy number that the gate may have.
+    pub fn most(&self) -> u32
+        ensures { result ≡ greatest_number self.now }
+    {
+        self.most
     }
 
     /// Gives the seat a pass, with the number and version that one step finds in the gate word. `Spent` exactly
@@ -73,6 +82,7 @@ impl<'d, V: Journal<D>, D: Decider> Gate<'d, V, D> {
         requires gate { IsOfGate self.now seat.old }
         requires pass { HasPass seat.old }
         ensures left { HasLeft seat.old seat.new }
+        ensures rule { StoodAt V.means D.decides self.now seat.old (leave_word (pass_number seat.old)) (found_last seat.new) }
         ensures gate { IsOfGate self.now seat.new }
     {
         let Some((number, _)) = seat.pass else {

@@ -1,10 +1,10 @@
 //! What the administrator does at a gate beside taking turns.
-ghost use Rattle.std.specs.Prelude.{◌≡◌, ◌+◌, ◌<◌, ◌≤◌, ◌↔◌, length, IfOk, OnOk, OnErr, IsErr};
+ghost use Rattle.std.specs.Prelude.{◌≡◌, ◌+◌, ◌<◌, ◌≤◌, ◌↔◌, Some, length, IfOk, OnOk, OnErr, IsErr};
 ghost use Rattle.gate_rule.specs.Views.{leave_word};
 ghost use Rattle.epoch_gate.specs.Seats.{IsOfGate};
-ghost use Rattle.epoch_gate.specs.Known.{seats_allowed, greatest_number, versions_at, IsIdle, HasTurn, HasNoPass, found_last};
-ghost use Rattle.epoch_gate.specs.Known.{seats_made, seats_retired, current_number, current_version, passes_counted, cleared_below, IsSettled, IsUnsettled};
-ghost use Rattle.epoch_gate.specs.Calls.{IsNew, HasMade, HasRaised, HasCounted, HasRetired, StoodAt};
+ghost use Rattle.epoch_gate.specs.Known.{seats_allowed, greatest_number, versions_at, IsIdle, HasTurn, HasNoPass, seen_by, found_last};
+ghost use Rattle.epoch_gate.specs.Known.{seats_made, seats_retired, current_number, current_version, passes_counted, older_shown, cleared_below, IsSettled, IsUnsettled};
+ghost use Rattle.epoch_gate.specs.Calls.{IsNew, HasMade, HasRaised, HasCounted, HasRetired, StoodAt, StoodMade, StoodRetired};
 
 use crate::admin::Admin;
 use crate::gate::Gate;
@@ -27,6 +27,7 @@ impl<'d, V: Journal<D>, D: Decider> Gate<'d, V, D> {
         requires { IsOfGate self.now admin.old }
         ensures seat { IfOk result (λ seat. IsOfGate self.now seat × IsNew admin.old seat) }
         ensures ok { OnOk result (HasMade admin.old admin.new) }
+        ensures rule { OnOk result (StoodMade V.means D.decides self.now admin.old admin.new) }
         ensures full { IsErr result ↔ (seats_made admin.old ≡ seats_allowed self.now) }
         ensures err { OnErr result (admin.new ≡ admin.old) }
         ensures gate { IsOfGate self.now admin.new }
@@ -54,7 +55,10 @@ impl<'d, V: Journal<D>, D: Decider> Gate<'d, V, D> {
         requires most { current_number admin.old < greatest_number self.now }
         requires version { ver < versions_at D.decides self.now }
         ensures raised { HasRaised admin.old admin.new }
+        ensures number { current_number admin.new ≡ current_number admin.old + 1 }
         ensures version { current_version admin.new ≡ ver }
+        ensures seen { seen_by admin.new ≡ seen_by admin.old }
+        ensures turn { HasTurn admin.new }
         ensures rule { StoodAt V.means D.decides self.now admin.old 0 (found_last admin.new) }
         ensures gate { IsOfGate self.now admin.new }
     {
@@ -72,6 +76,9 @@ impl<'d, V: Journal<D>, D: Decider> Gate<'d, V, D> {
         requires turn { HasTurn admin.old }
         requires pending { IsUnsettled V.means.kind admin.old }
         ensures counted { HasCounted admin.old admin.new }
+        ensures shown { older_shown admin.new ≡ Some result }
+        ensures seen { seen_by admin.new ≡ seen_by admin.old }
+        ensures turn { HasTurn admin.new }
         ensures older { result + found_last admin.new ≡ passes_counted admin.old }
         ensures clear { result ≡ 0 → cleared_below admin.new ≡ current_number admin.old }
         ensures few { result + length (seats_retired admin.old) ≤ seats_made admin.old }
@@ -89,6 +96,7 @@ impl<'d, V: Journal<D>, D: Decider> Gate<'d, V, D> {
         requires out { HasNoPass seat }
         requires idle { IsIdle seat }
         ensures retired { HasRetired admin.old seat admin.new }
+        ensures rule { StoodRetired V.means D.decides self.now admin.old seat admin.new }
         ensures gate { IsOfGate self.now admin.new }
     {
         let Seat { place, .. } = seat;

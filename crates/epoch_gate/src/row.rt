@@ -53,6 +53,7 @@ impl<'d, V: Journal<D>, D: Decider> Gate<'d, V, D> {
         requires missed { HasMissedRow (key_of s t c) seat.old }
         requires vector { v ≡ vector_for D.decides self.now seat.old (key_of s t c) }
         ensures filled { HasFilled (key_of s t c) v seat.old seat.new }
+        ensures rule { StoodAt V.means D.decides self.now seat.old (key_word (key_of s t c)) (found_last seat.new) }
         ensures gate { IsOfGate self.now seat.new }
     {
         let Some((number, _)) = seat.pass else {

@@ -10,7 +10,7 @@ ghost use Rattle.gate_rule.specs.Tickets.{has_turn};
 ghost use Rattle.gate_rule.specs.Views.{IsLive, number_of, leave_word};
 ghost use Rattle.gate_rule.specs.Views;
 ghost use Rattle.gate_rule.specs.Rule.{IsOf};
-ghost use Rattle.gate_rule.specs.Told.{Extends, Takes};
+ghost use Rattle.gate_rule.specs.Told.{Extends, Takes, Stands};
 ghost use Rattle.gate_rule.specs.Told;
 ghost use Rattle.atomic_table.specs.Table.{step};
 ghost use mathlib.Core.Option.{none};
@@ -71,6 +71,7 @@ pub(crate) fn poll<V: Journal<D>, D: Decider>(
     ensures turn { IfSome result (λ value. (place.new.me ≡ (Views.took V.means value place.old.me.0 ticket, (0, None) ∷ [])) × Takes V.means place.old.me.0 value) }
     ensures wait { IfNone result (place.new.me ≡ (Views.missed place.old.me.0 place.new.me.0.trace.last.found, [])) }
     ensures missed { IfNone result (place.new.me.0.trace.last.found ≢ ticket) }
+    ensures rule { IfSome result (λ value. Stands V.means D.decides place.old.me.0 4 ticket) }
 {
     let found = words.load::<Poll>(place, 4);
     if found != ticket {
@@ -94,6 +95,7 @@ pub(crate) fn give<V: Journal<D>, D: Decider>(
     requires value { (f : Fixed D V.Opening) → place.old.me.0.fixed ≡ Some f → IsOf V.means f value }
     ensures table { place.new.table_id ≡ place.old.table_id }
     ensures given { place.new.me ≡ (Views.gave V.means value place.old.me.0 place.new.me.0.trace.last.found, []) }
+    ensures rule { Stands V.means D.decides place.old.me.0 4 place.new.me.0.trace.last.found }
 {
     let left = words.exchange(place, 0, Some(value));
     let None = left else { unreachable!() };

@@ -1,14 +1,17 @@
 //! Turns: tickets are drawn and served in order, and the value goes from hand to hand.
-ghost use Rattle.std.specs.Prelude.{◌≡◌, Some, None, [], ◌∷◌};
+ghost use Rattle.std.specs.Prelude.{◌≡◌, Some, None, [], ◌∷◌, ◌++◌, length};
+ghost use Rattle.std.specs.FinMap as maps;
+ghost use Rattle.gate_rule.specs.declared.view.Trace.{Trace};
 ghost use Rattle.gate_rule.specs.declared.view.Ticket.TheVariants.{Drawn};
-ghost use Rattle.gate_rule.specs.History.{of_caller};
-ghost use Rattle.gate_rule.specs.Views.{IsLive};
+ghost use Rattle.gate_rule.specs.History.{of_caller, IsOrdered};
+ghost use Rattle.gate_rule.specs.Views.{IsLive, item_of};
 ghost use Rattle.gate_rule.specs.Views;
-ghost use Rattle.gate_rule.specs.Told.{Takes};
+ghost use Rattle.gate_rule.specs.Told.{Takes, Stands, IsNamed};
 ghost use Rattle.epoch_gate.specs.Seats.{IsAt, IsOfGate};
-ghost use Rattle.epoch_gate.specs.Known.{IsIdle, HasTurn, own_entries, caller_number};
+ghost use Rattle.epoch_gate.specs.Known.{IsIdle, HasTurn, seen_by, own_entries, caller_number, pass_held, slots_followed, found_last};
+ghost use Rattle.epoch_gate.specs.Known.{older_shown, stale_found, stale_left, turns_had};
 ghost use Rattle.epoch_gate.specs.Calls.{HasLookedUntil, HasWaited, HasTaken, HasGiven, LearnsAsCaller, LearnsAsAdmin};
-ghost use Rattle.epoch_gate.specs.Calls.{ExtendsAsCaller, ExtendsAsAdmin, IsValueOf};
+ghost use Rattle.epoch_gate.specs.Calls.{ExtendsAsCaller, ExtendsAsAdmin, IsValueOf, IsSameCaller, IsSameAdmin, StoodWaiting, StoodAt};
 
 use crate::admin::Admin;
 use crate::gate::Gate;
@@ -31,6 +34,7 @@ fn wait_for_turn<V: Journal<D>, D: Decider, R: Wait>(
     ensures turn { place.new.me ≡ (record (Views.took V.means result place.old.me.0 ticket) { trace = place.new.me.0.trace }, (0, None) ∷ []) }
     ensures waited { HasLookedUntil place.old.me.0.trace ticket place.new.me.0.trace }
     ensures learns { Takes V.means place.old.me.0 result }
+    ensures rule { (trace : Trace) × Stands V.means D.decides (record place.old.me.0 { trace = trace }) 4 ticket }
 {
     let backoff = Backoff::new();
     for _ in rt.forever() {
@@ -51,6 +55,14 @@ impl<'d, V: Journal<D>, D: Decider> Gate<'d, V, D> {
         ensures waited { HasWaited seat.old seat.new }
         ensures turn { HasTurn seat.new }
         ensures learns { LearnsAsCaller V.means seat.old result }
+        ensures named { IsNamed V.means.kind (pass_held seat.old) (V.means.history result) }
+        ensures ordered { IsOrdered V.means.kind (V.means.history result) }
+        ensures seen { seen_by seat.new ≡ V.means.history result }
+        ensures follows { slots_followed seat.new ≡ maps.entries (V.means.follows result) }
+        ensures mine { own_entries seat.new ≡ own_entries seat.old }
+        ensures turns { turns_had seat.new ≡ turns_had seat.old }
+        ensures same { IsSameCaller seat.old seat.new }
+        ensures rule { StoodWaiting V.means D.decides self.now seat.old seat.new }
         ensures value { IsValueOf V.means self.now result }
         ensures gate { IsOfGate self.now seat.new }
     {
@@ -66,6 +78,12 @@ impl<'d, V: Journal<D>, D: Decider> Gate<'d, V, D> {
         requires value { IsValueOf V.means self.now value }
         ensures gave { HasGiven V.means seat.old seat.new value }
         ensures mine { own_entries seat.new ≡ of_caller V.means.kind (caller_number seat.old) (V.means.history value) }
+        ensures seen { seen_by seat.new ≡ V.means.history value }
+        ensures follows { slots_followed seat.new ≡ slots_followed seat.old }
+        ensures turns { turns_had seat.new ≡ turns_had seat.old ++ item_of V.means seat.old.view value ∷ [] }
+        ensures same { IsSameCaller seat.old seat.new }
+        ensures idle { IsIdle seat.new }
+        ensures rule { StoodAt V.means D.decides self.now seat.old 4 (found_last seat.new) }
         ensures gate { IsOfGate self.now seat.new }
     {
         steps::give(&self.table.shared, &mut seat.place, value);
@@ -79,6 +97,13 @@ impl<'d, V: Journal<D>, D: Decider> Gate<'d, V, D> {
         ensures waited { HasWaited admin.old admin.new }
         ensures turn { HasTurn admin.new }
         ensures learns { LearnsAsAdmin V.means admin.old result }
+        ensures ordered { IsOrdered V.means.kind (V.means.history result) }
+        ensures seen { seen_by admin.new ≡ V.means.history result }
+        ensures found { stale_found admin.new ≡ length (V.means.stale result) }
+        ensures shown { older_shown admin.new ≡ None }
+        ensures turns { turns_had admin.new ≡ turns_had admin.old }
+        ensures same { IsSameAdmin admin.old admin.new }
+        ensures rule { StoodWaiting V.means D.decides self.now admin.old admin.new }
         ensures value { IsValueOf V.means self.now result }
         ensures gate { IsOfGate self.now admin.new }
     {
@@ -93,6 +118,13 @@ impl<'d, V: Journal<D>, D: Decider> Gate<'d, V, D> {
         requires history { ExtendsAsAdmin V.means.kind admin.old (V.means.history value) }
         requires value { IsValueOf V.means self.now value }
         ensures gave { HasGiven V.means admin.old admin.new value }
+        ensures seen { seen_by admin.new ≡ V.means.history value }
+        ensures found { stale_found admin.new ≡ stale_found admin.old }
+        ensures left { stale_left admin.new ≡ length (V.means.stale value) }
+        ensures turns { turns_had admin.new ≡ turns_had admin.old ++ item_of V.means admin.old.view value ∷ [] }
+        ensures same { IsSameAdmin admin.old admin.new }
+        ensures idle { IsIdle admin.new }
+        ensures rule { StoodAt V.means D.decides self.now admin.old 4 (found_last admin.new) }
         ensures gate { IsOfGate self.now admin.new }
     {
         steps::give(&self.table.shared, &mut admin.place, value);

@@ -1,5 +1,6 @@
 pub mod Plain
 pub mod Honest
+pub mod Keeping
 pub mod Boards
 pub mod Laws
 pub mod Serving

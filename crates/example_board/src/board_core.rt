@@ -57,6 +57,7 @@ pub fn new<F: Callback>(alloc: Global, opening: BoardOpening, callback: F) -> Bo
 impl<F: Callback> Core for BoardCore<F> {
     ghost use Rattle.access_vectors.specs.declared.class.Class.TheVariants.{File};
     ghost use Rattle.example_board.specs.Honest.{honest_answer};
+    ghost use Rattle.example_board.specs.Keeping.{formed_stays};
     ghost use Rattle.example_board.specs.Plain as plainly;
     ghost use Rattle.example_board.specs.Plain.{BoardState, IsFormed, opened_with};
     ghost use Rattle.example_board.specs.Boards as boards;
@@ -143,6 +144,9 @@ impl<F: Callback> Core for BoardCore<F> {
     }
 
     ghost honest = { λ d at caller call number version. honest_answer d at caller call number version };
+
+    ghost formed_stays = { λ d at caller call number version other later formed next.
+        formed_stays d at caller call number version other later next };
 
     ghost are_stale = { λ d core fits. stale_as_defined d core fits };
 

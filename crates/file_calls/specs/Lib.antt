@@ -8,3 +8,4 @@ pub mod SlotCalls
 pub mod Plain
 pub mod Example
 pub mod Honest
+pub mod Keeping

@@ -61,6 +61,7 @@ pub fn new<F: Callback + Drop>(
 impl<F: Callback> Core for FileCore<F> {
     ghost use Rattle.access_vectors.specs.declared.class.Class.TheVariants.{File};
     ghost use Rattle.file_calls.specs.Honest.{honest_answer};
+    ghost use Rattle.file_calls.specs.Keeping.{formed_stays};
     ghost use Rattle.file_calls.specs.Plain as plainly;
     ghost use Rattle.file_calls.specs.Plain.{IsFormed};
     ghost use Rattle.file_calls.specs.States.{FileState, opened_with};
@@ -148,6 +149,9 @@ impl<F: Callback> Core for FileCore<F> {
     }
 
     ghost honest = { λ d at caller call number version. honest_answer d at caller call number version };
+
+    ghost formed_stays = { λ d at caller call number version other later formed next.
+        formed_stays d at caller call number version other later next };
 
     ghost are_stale = { λ d core fits. stale_as_defined d core fits };
 

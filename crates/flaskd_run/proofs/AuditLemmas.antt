@@ -34,6 +34,7 @@ asked_as day n (run.End client of) asked caller is = cc
 asked_as day n (run.Notify version) asked caller is = cc
 asked_as day n (run.Update most) asked caller is = cc
 asked_as day n run.Ack asked caller is = cc
+asked_as day n run.Force asked caller is = cc
 
 -- nothing is logged yet
 pub logged_start : (log : List (List AuditLine)) (all : List AuditLine) → IsLogged log log all all

@@ -34,7 +34,7 @@ use Rattle.session_text.specs.declared.session.SessionParts.{SessionParts}
 use Rattle.session_text.specs.declared.session.Run.{Run}
 use Rattle.session_text.specs.declared.session.Run.TheVariants as run
 use Rattle.session_text.specs.declared.session.RunLine.{RunLine}
-use Rattle.session_desk.specs.Days.{Day, morning_of, refusal_of, day_notified, counted_change, is_complete, ack_all_of}
+use Rattle.session_desk.specs.Days.{Day, morning_of, refusal_of, day_notified, counted_change, is_complete, ack_all_of, force_all_of}
 use Rattle.session_desk.specs.Desks.{AreOpenings, HasClients, IsSameOpening}
 use Rattle.session_desk.specs.declared.opening.Openings.{Openings}
 use Rattle.flaskd_run.specs.Serial.{day_after, day_below, line_text, lines_text, morning, openings_of}
@@ -104,6 +104,7 @@ calls_after d day (run.Notify version) = noticed_calls (refusal_of d day version
     noticed_calls (Some fault) = omega arith
 calls_after d day (run.Update most) = omega arith
 calls_after d day run.Ack = omega arith
+calls_after d day run.Force = omega arith
 
 -- one change at most is counted
 change_counted : (complete : Bool) (changes : ℕ) → counted_change complete changes ≤ changes + 1
@@ -128,6 +129,7 @@ changes_after d day (run.Notify version) = noticed_changes (refusal_of d day ver
     noticed_changes (Some fault) = omega arith
 changes_after d day (run.Update most) = omega arith
 changes_after d day run.Ack = change_counted (is_complete (ack_all_of d day)) day.changes
+changes_after d day run.Force = change_counted (is_complete (force_all_of d day)) day.changes
 
 -- the managers have as many clients as before
 pub clients_after : (count : ℕ) (old new : Day) → HasClients count old → IsSameOpening old new → HasClients count new
@@ -187,6 +189,7 @@ run_known P Q clients (run.End client of) each is = is
 run_known P Q clients (run.Notify version) each is = is
 run_known P Q clients (run.Update most) each is = is
 run_known P Q clients run.Ack each is = is
+run_known P Q clients run.Force each is = is
 
 pub runs_known : (P Q : ℕ → Type 0) (clients : ℕ) (lines : List RunLine) → ((sid : ℕ) → P sid → Q sid) → All (λ line. IsRun P clients line.run) lines → All (λ line. IsRun Q clients line.run) lines
 runs_known P Q clients lines each all = λ k e within. run_known P Q clients _ each (all k e within)

@@ -24,16 +24,14 @@ use Rattle.access_vectors.specs.declared.change.NotifyFault.{NotifyFault}
 use Rattle.change_protocol.specs.Changes.{for_all}
 use Rattle.change_protocol.specs.declared.answers.NotifyAllFault.{NotifyAllFault}
 use Rattle.session_desk.specs.Days as days
-use Rattle.session_desk.specs.Days.{Day, morning_of, acting_on, day_begun, day_ended, refusal_of, day_notified, day_updated, left_on, ack_all_of, all_said, day_acknowledged}
+use Rattle.session_desk.specs.Days.{Day, morning_of, acting_on, day_begun, day_ended, refusal_of, day_notified, day_updated, left_on, ack_all_of, all_said, day_acknowledged, force_all_of, all_forced, day_forced}
 use Rattle.session_desk.specs.Desks.{LastAsked}
 use Rattle.session_desk.specs.One as one
 use Rattle.session_desk.specs.One.{Told}
 use Rattle.session_desk.specs.declared.acting.Call.{Call}
 use Rattle.session_desk.specs.declared.acting.Call.TheVariants as call
-use Rattle.session_desk.specs.declared.acting.Reply.{Reply}
-use Rattle.session_desk.specs.declared.acting.Reply.TheVariants as reply
 use Rattle.session_desk.specs.declared.opening.Openings.{Openings}
-use Rattle.flaskd_run.specs.Texts.{any_reply_text, client_text, admin_text, notice_text, updated_text, ack_text, summary_text}
+use Rattle.flaskd_run.specs.Texts.{got_text, client_text, admin_text, notice_text, updated_text, ack_text, summary_text}
 
 -- what the managers are opened with: a client acts as its context, and the root and ports without a line have theirs
 abbrev pub openings_of : SessionParts → Openings
@@ -55,12 +53,7 @@ name_of clients client = name_in (slice_get clients client)
     name_in None = []
     name_in (Some line) = line.name
 
--- the manager that a reply is from, and that a call is of
-abbrev pub manager_of : Reply → Manager
-manager_of (reply.File got) = manager.File
-manager_of (reply.Process got) = manager.Process
-manager_of (reply.Port got) = manager.Port
-
+-- the manager that a call is of
 abbrev pub call_manager : Call → Manager
 call_manager asks = days.manager_of asks
 
@@ -73,7 +66,7 @@ abbrev pub told_to : Decisions → Day → ℕ → Call → Told
 told_to d day client asks = days.told_to d day client asks
 
 abbrev pub replied : Decisions → Day → ℕ → Call → LineAnswer
-replied d day client asks = answer.Replied client (acting_on day client (days.manager_of asks)) (days.told_to d day client asks).reply
+replied d day client asks = answer.Replied client (days.manager_of asks) (acting_on day client (days.manager_of asks)) (days.told_to d day client asks).answer
 
 -- after a client's call
 abbrev pub day_called : Decisions → Day → ℕ → Call → Day
@@ -89,6 +82,7 @@ day_after d day (run.End client of) = day_ended day client of
 day_after d day (run.Notify version) = day_notified day version (refusal_of d day version)
 day_after d day (run.Update most) = day_updated d day most
 day_after d day run.Ack = day_acknowledged d day
+day_after d day run.Force = day_forced d day
 
 -- what the choice of a version gets: its number, or why it is refused
 abbrev pub notice_answer : Option NotifyFault → ℕ → Result ℕ NotifyAllFault
@@ -105,10 +99,11 @@ answer_on d day (run.End client of) = answer.Ended client of (acting_on day clie
 answer_on d day (run.Notify version) = answer.Notified (notice_answer (refusal_of d day version) (number_of day.files.phase + 1))
 answer_on d day (run.Update most) = answer.Updated (left_on d day most)
 answer_on d day run.Ack = answer.Acknowledged (record { all = ack_all_of d day; said = all_said d day })
+answer_on d day run.Force = answer.Acknowledged (record { all = force_all_of d day; said = all_forced d day })
 
 -- what is printed of it, where these contexts have identifiers
 abbrev pub answer_text : List (ContextOf (List ℕ)) → List ClientLine → ℕ → LineAnswer → List ℕ
-answer_text contexts clients n (answer.Replied client number got) = client_text n (name_of clients client) (manager_of got) number (any_reply_text contexts got)
+answer_text contexts clients n (answer.Replied client of number got) = client_text n (name_of clients client) of number (got_text contexts got)
 answer_text contexts clients n (answer.Begun client of number) = client_text n (name_of clients client) of number (codes "begun")
 answer_text contexts clients n (answer.Ended client of number) = client_text n (name_of clients client) of number (codes "ended")
 answer_text contexts clients n (answer.Notified said) = admin_text n (notice_text said)

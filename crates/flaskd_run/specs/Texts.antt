@@ -9,6 +9,8 @@ use Rattle.process_calls.specs.declared.call.ProcessReply.{ProcessReply}
 use Rattle.process_calls.specs.declared.call.ProcessReply.TheVariants as process
 use Rattle.port_calls.specs.declared.call.PortReply.{PortReply}
 use Rattle.port_calls.specs.declared.call.PortReply.TheVariants as port
+use Rattle.manager_history.specs.declared.answers.Answer.{Answer}
+use Rattle.manager_history.specs.declared.answers.Answer.TheVariants.{Did, Aborted}
 use Rattle.session_forms.specs.declared.run_forms.Manager.{Manager}
 use Rattle.session_forms.specs.declared.run_forms.Manager.TheVariants as manager
 use Rattle.change_protocol.specs.declared.answers.AckAll.{AckAll}
@@ -104,6 +106,11 @@ abbrev pub any_reply_text : List (ContextOf (List ℕ)) → Reply → List ℕ
 any_reply_text contexts (any.File got) = reply_text contexts got
 any_reply_text contexts (any.Process got) = process_reply_text contexts got
 any_reply_text contexts (any.Port got) = port_reply_text contexts got
+
+-- what a call got: a reply, or it was aborted
+abbrev pub got_text : List (ContextOf (List ℕ)) → Answer Reply → List ℕ
+got_text contexts (Did got) = any_reply_text contexts got
+got_text contexts Aborted = codes "aborted"
 
 -- the word of a manager
 abbrev pub manager_word : Manager → List ℕ

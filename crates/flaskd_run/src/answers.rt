@@ -3,21 +3,23 @@
 ghost use Rattle.std.specs.Prelude.{◌≡◌, ◌++◌, OnOk};
 ghost use Rattle.flaskd_run.specs.Serial;
 
-use crate::texts::{put_acks, put_admin, put_client, put_notice, put_reply, put_updated};
+use crate::texts::{put_acks, put_admin, put_client, put_got, put_notice, put_updated};
 use change_protocol::NotifyAllFault;
 use flask_sid::{Memory, Piece, SidTable};
+use manager_history::Answer;
 use session_desk::{Acks, Reply};
 use session_forms::Manager;
 use session_text::ClientLine;
 
-/// What a line came to: a client's call got this reply under a policy number, a client holds a pass of that number or gave it
-/// back, or what the administrator was told.
-#[derive(Debug, Drop)]
+/// What a line came to: a client's call got this reply under a policy number, or was aborted; a client holds a pass of that number
+/// or gave it back; or what the administrator was told.
+#[derive(Drop)]
 pub enum LineAnswer {
     Replied {
         client: u8,
+        manager: Manager,
         number: u32,
-        reply: Reply,
+        got: Answer<Reply>,
     },
     Begun {
         client: u8,
@@ -44,17 +46,6 @@ fn name_of(clients: &[ClientLine], client: u8) -> &[u8]
     }
 }
 
-/// The manager that a reply is from.
-fn manager_of(reply: &Reply) -> Manager
-    ensures { result ≡ Serial.manager_of reply.now }
-{
-    match reply {
-        Reply::File(_) => Manager::File,
-        Reply::Process(_) => Manager::Process,
-        Reply::Port(_) => Manager::Port,
-    }
-}
-
 /// Puts a line's answer, where these contexts have identifiers.
 pub fn put_answer(
     out: &mut Piece,
@@ -68,12 +59,12 @@ pub fn put_answer(
     match answer {
         LineAnswer::Replied {
             client,
+            manager,
             number,
-            reply,
+            got,
         } => {
-            let name = name_of(clients, *client);
-            put_client(out, line, name, manager_of(reply), *number)?;
-            put_reply(out, contexts, reply)?;
+            put_client(out, line, name_of(clients, *client), *manager, *number)?;
+            put_got(out, contexts, got)?;
         }
         LineAnswer::Begun {
             client,

@@ -63,11 +63,13 @@ fn call<D: Decider>(
     ensures decider { desk.new.decider ≡ desk.old.decider }
     ensures whole { desk.new.whole ≡ desk.old.whole }
 {
+    let manager = call.manager();
     let acted = desk.call(alloc, client, mark, call)?;
     Ok(LineAnswer::Replied {
         client,
+        manager,
         number: acted.number,
-        reply: acted.reply,
+        got: acted.answer,
     })
 }
 
@@ -124,5 +126,6 @@ pub fn act<R: Wait, D: Decider>(
         }
         Run::Update { k } => Ok(LineAnswer::Updated(desk.update(rt, k))),
         Run::Ack => Ok(LineAnswer::Acknowledged(desk.acknowledge(rt))),
+        Run::Force => Ok(LineAnswer::Acknowledged(desk.force(rt))),
     }
 }

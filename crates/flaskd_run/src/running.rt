@@ -34,6 +34,34 @@ pub struct Setting<'a> {
     pub audited: bool,
 }
 
+/// Does what a line asks, and puts what it prints.
+fn act_and_put<R: Wait, D: Decider>(
+    rt: &R,
+    alloc: Global,
+    desk: &mut Desk<'_, D>,
+    setting: &Setting<'_>,
+    line: RunLine,
+    out: &mut Piece,
+) -> Result<(), Memory>
+    requires out { out.old ≡ [] }
+    requires formed { IsRun (λ sid. IsTrue ((D.decides desk.old.decider).known sid)) (length setting.now.clients.now) line.run }
+    requires few { length setting.now.clients.now ≤ 62 }
+    requires clients { HasClients (length setting.now.clients.now) desk.old.day }
+    requires whole { desk.old.whole ≡ true }
+    requires calls { desk.old.day.calls + 1 < 2 ^ 64 }
+    requires changes { desk.old.day.changes + 1 < 2 ^ 64 }
+    ensures text { OnOk result (out.new ≡ Serial.line_text setting.now.contexts.now (D.decides desk.old.decider) setting.now.clients.now desk.old.day line.line line.run) }
+    ensures day { OnOk result (desk.new.day ≡ Serial.day_after (D.decides desk.old.decider) desk.old.day line.run) }
+    ensures asked { OnOk result (Serial.asked_in desk.new.asked line.run ≡ Serial.asked_by (D.decides desk.old.decider) desk.old.day line.run) }
+    ensures opening { IsSameOpening desk.old.day desk.new.day }
+    ensures decider { desk.new.decider ≡ desk.old.decider }
+    ensures whole { OnOk result (desk.new.whole ≡ true) }
+{
+    let number = line.line;
+    let answer = act(rt, alloc, desk, setting.clients.len(), line)?;
+    put_answer(out, setting.contexts, setting.clients, number, &answer)
+}
+
 /// Runs a line, puts what it prints, and logs its audit lines where they are printed.
 fn run_audited<R: Wait, D: Decider>(
     rt: &R,
@@ -66,9 +94,7 @@ fn run_audited<R: Wait, D: Decider>(
     } else {
         None
     };
-    let number = line.line;
-    let answer = act(rt, alloc, desk, setting.clients.len(), line)?;
-    put_answer(out, setting.contexts, setting.clients, number, &answer)?;
+    act_and_put(rt, alloc, desk, setting, line, out)?;
     match caller {
         None => Ok(()),
         Some(caller) => log.log(

@@ -8,14 +8,25 @@ use access_vectors::{Perm, class_name, perm_name};
 use change_protocol::{AckAll, NotifyAllFault, Said};
 use file_calls::FileReply;
 use flask_sid::{Context, Memory, Piece, Sid, SidTable};
+use manager_history::Answer;
 use port_calls::PortReply;
 use process_calls::ProcessReply;
 use session_desk::{Acks, Reply};
 use session_forms::Manager;
 use text_lines::put_number;
 
+/// Puts what a call got. The labels of a reply are identifiers of these contexts.
+pub fn put_got(out: &mut Piece, contexts: &SidTable, got: &Answer<Reply>) -> Result<(), Memory>
+    ensures { OnOk result (out.new ≡ out.old ++ Texts.got_text contexts.now got.now) }
+{
+    match got {
+        Answer::Did(reply) => put_reply(out, contexts, reply),
+        Answer::Aborted => out.extend(b"aborted"),
+    }
+}
+
 /// Puts a reply, whose labels are identifiers of these contexts.
-pub fn put_reply(out: &mut Piece, contexts: &SidTable, reply: &Reply) -> Result<(), Memory>
+fn put_reply(out: &mut Piece, contexts: &SidTable, reply: &Reply) -> Result<(), Memory>
     ensures { OnOk result (out.new ≡ out.old ++ Texts.any_reply_text contexts.now reply.now) }
 {
     match reply {

@@ -11,11 +11,12 @@ use Rattle.gate_rule.specs.History.Kind.{Call}
 use Rattle.gate_rule.specs.Views.{caller_of, leave_word, one_more, done, traced, entry_added}
 use Rattle.gate_rule.proofs.Histories.{alternates_more, phase_settled, phase_pending, nothing_added, one_added}
 use Rattle.epoch_gate.specs.Seats.{Shown}
-use Rattle.epoch_gate.specs.Known.{IsCallerOf, seen_by, pass_held}
-use Rattle.epoch_gate.specs.Calls.{HasMissed, HasLookedUntil, ExtendsAsCaller}
+use Rattle.gate_rule.specs.Tickets.{word_of}
+use Rattle.epoch_gate.specs.Known.{IsCallerOf, seen_by, pass_held, found_last, turns_had}
+use Rattle.epoch_gate.specs.Calls.{HasWaited, ExtendsAsCaller}
 use Rattle.gate_ledger.specs.declared.ledger.Line.{Line}
 use Rattle.gate_ledger.specs.Lines.{kind_of}
-use Rattle.gate_ledger.specs.Changes.{phase_after}
+use Rattle.gate_ledger.specs.Changes.{phase_after, HasTurnAlone}
 
 -- what was counted, as the answer says it
 pub shown : (c m older : ℕ) → older + m ≡ c → (looked : Option ℕ) → looked ≡ Some (c - m) → looked ≡ Some older
@@ -29,19 +30,14 @@ cleared c m older newest clear sum none = ap (λ (b : _). cond b newest clear) (
 load_is : (e l : StepDone) (word word' : ℕ) → e ≡ l → l ≡ done word l.found l.found → word ≡ word' → e ≡ done word' e.found e.found
 load_is e l word word' same is at = same ∙ (is ∙ (λ i. done (at i) ((sym same i).found) ((sym same i).found)))
 
--- each look that missed was a step
-missed_steps : (drawn : Trace) (ticket misses : ℕ) (t : Trace) → HasMissed drawn ticket misses t → t.steps ≡ drawn.steps + misses
-missed_steps drawn ticket zero t h = let e = ap (λ (x : Trace). x.steps) h in omega arith
-missed_steps drawn ticket (suc misses) t h = let e = ap (λ (x : Trace). x.steps) h.4 in let r = missed_steps drawn ticket misses h.0 h.1 in omega arith
-
--- the steps of a turn
-pub had_turn : (before taken given : Trace) (ticket n : ℕ) → HasLookedUntil (traced before (done 3 ticket (one_more ticket))) ticket taken → given ≡ traced taken (done 4 n (one_more n))
-    → (before.steps + 3 ≤ given.steps) × (given.last ≡ done 4 given.last.found (one_more given.last.found))
-had_turn before taken given ticket n waited gave =
-    let a = missed_steps (traced before (done 3 ticket (one_more ticket))) ticket waited.0 waited.1 waited.2 in
-    let b = ap (λ (x : Trace). x.steps) waited.3 in
-    let c = ap (λ (x : Trace). x.steps) gave in
-    (omega arith, (λ i. (gave i).last) ∙ (λ i. done 4 ((sym gave i).last.found) (one_more ((sym gave i).last.found))))
+-- the one turn of a call
+pub had_turn : {D O : Type 0} (s w t : Shown Line D O) (log : List Line) (l : ℕ) → HasWaited s w → t.view.trace ≡ traced w.view.trace (done 4 (found_last t) (one_more (found_last t))) → turns_had w ≡ turns_had s → turns_had t ≡ turns_had w ++ (record { entry = entry_added w.view.seen log; looked = w.view.desk.looked; found = w.view.desk.found; left = l }) ∷ [] → HasTurnAlone s t
+had_turn s w t log l waited gave same more =
+    let item : Item Line = record { entry = entry_added w.view.seen log; looked = w.view.desk.looked; found = w.view.desk.found; left = l } in
+    let last = ap (λ (x : Trace). x.last) gave in (
+      record { ticket = word_of w.view.ticket; taken = w.view.trace; waited = waited; item = item; once = more ∙ ap (λ (l : List (Item Line)). l ++ item ∷ []) same; passed = last },
+      gave ∙ ap (traced w.view.trace) (sym last),
+    )
 
 module _ {E D O : Type 0} where
   -- what the load of the older passes showed, said of the seat before the turn and of the one after it
@@ -73,7 +69,7 @@ grown versions log log' e h more may = subst (Alternates kind_of versions 0 0) (
 -- a caller's call, behind what it has seen with the turn
 pub calls : {D O : Type 0} (s : Shown Line D O) (items log : List Line) (e : Line) (n mark number version : ℕ) → log ≡ items ++ e ∷ [] → seen_by s ≡ items → IsCallerOf n s → pass_held s ≡ Inside number version → kind_of e ≡ Call n mark number → ExtendsAsCaller kind_of s log
 calls s items log e n mark number version more seen role pass is =
-    inr (e, more ∙ ap (λ (l : List Line). l ++ e ∷ []) (sym seen), mark, number, version, pass, is ∙ ap (λ (c : ℕ). Call c mark number) (sym (ap caller_of role)))
+    inr (e, more ∙ ap (λ (l : List Line). l ++ e ∷ []) (sym seen), (mark, number, version, pass, is ∙ ap (λ (c : ℕ). Call c mark number) (sym (ap caller_of role))))
 
 -- where the settled number is not the last one noticed, that one is pending
 pub pends : (versions : ℕ) (items log : List Line) → log ≡ items → Alternates kind_of versions 0 0 items → settled_in kind_of items ≢ (last_notice kind_of items).0 → is_pending (phase_after log) ≡ true

@@ -1,5 +1,5 @@
 -- When a notice may come over a list of lines, and why it may not.
-use Rattle.std.proofs.Common.{◌≡◌, ◌≢◌, ℕ, ◌<◌, ◌≤◌, nat_lt, Bool, true, false, List, refl, sym, ap, ◌∙◌, subst, Option, Some, None, if◌then◌else◌, arith}
+use Rattle.std.proofs.Common.{◌≡◌, ◌≢◌, ℕ, ◌<◌, ◌≤◌, nat_lt, Bool, true, false, List, refl, eqb, eq-eqb, ne_eqb, sym, ap, ◌∙◌, subst, Option, Some, None, if◌then◌else◌, arith}
 use Rattle.std.proofs.lemmas.Bool.Decides.{nat_tests}
 use Rattle.access_vectors.specs.declared.phase.Phase.{Phase}
 use Rattle.access_vectors.specs.Phases.{number_of}
@@ -9,8 +9,8 @@ use Rattle.gate_ledger.specs.declared.ledger.Line.{Line}
 use Rattle.access_vectors.specs.declared.change.NotifyFault.{NotifyFault}
 use Rattle.access_vectors.specs.declared.change.NotifyFault.TheVariants.{Pending, NoVersion, Spent, Memory}
 use Rattle.gate_ledger.specs.Lines.{kind_of}
-use Rattle.access_vectors.specs.Notices.{IsRefusal}
-use Rattle.gate_ledger.specs.Changes.{phase_after, notice_fault}
+use Rattle.access_vectors.specs.Notices.{notice_fault, IsRefusal}
+use Rattle.gate_ledger.specs.Changes.{phase_after}
 
 is_below : (a b : ℕ) → a < b → nat_lt a b ≡ true
 is_below a b h = grind (arith, nat_tests)
@@ -32,17 +32,17 @@ module _ (versions ver most : ℕ) (lines : List Line) (lawful : Alternates kind
 
   module _ (at : settled_in kind_of lines ≡ (last_notice kind_of lines).0) where
     -- where nothing is pending, version and number decide
-    settled : notice_fault (phase_after lines) versions ver most ≡ (if nat_lt ver versions then (if nat_lt (last_notice kind_of lines).0 most then None else Some Spent) else Some NoVersion)
+    settled : notice_fault (phase_after lines) versions ver most ≡ (if nat_lt ver versions then (if eqb (last_notice kind_of lines).0 most then Some Spent else None) else Some NoVersion)
     settled = ap (λ (phase : Phase). notice_fault phase versions ver most) (phase_settled kind_of versions lines lawful at)
 
     pub number : number_of (phase_after lines) ≡ (last_notice kind_of lines).0
     number = ap number_of (phase_settled kind_of versions lines lawful at)
 
     pub no_version : versions ≤ ver → notice_fault (phase_after lines) versions ver most ≡ Some NoVersion
-    no_version le = settled ∙ ap (λ (b : Bool). if b then (if nat_lt (last_notice kind_of lines).0 most then None else Some Spent) else Some NoVersion) (is_not_below ver versions le)
+    no_version le = settled ∙ ap (λ (b : Bool). if b then (if eqb (last_notice kind_of lines).0 most then Some Spent else None) else Some NoVersion) (is_not_below ver versions le)
 
-    pub spent : ver < versions → most ≤ (last_notice kind_of lines).0 → notice_fault (phase_after lines) versions ver most ≡ Some Spent
-    spent lt le = settled ∙ (λ i. if is_below ver versions lt i then (if is_not_below (last_notice kind_of lines).0 most le i then None else Some Spent) else Some NoVersion)
+    pub spent : ver < versions → (last_notice kind_of lines).0 ≡ most → notice_fault (phase_after lines) versions ver most ≡ Some Spent
+    spent lt same = settled ∙ (λ i. if is_below ver versions lt i then (if eq-eqb (last_notice kind_of lines).0 most same i then Some Spent else None) else Some NoVersion)
 
-    pub allowed : ver < versions → (last_notice kind_of lines).0 < most → notice_fault (phase_after lines) versions ver most ≡ None
-    allowed lt below = settled ∙ (λ i. if is_below ver versions lt i then (if is_below (last_notice kind_of lines).0 most below i then None else Some Spent) else Some NoVersion)
+    pub allowed : ver < versions → (last_notice kind_of lines).0 ≢ most → notice_fault (phase_after lines) versions ver most ≡ None
+    allowed lt apart = settled ∙ (λ i. if is_below ver versions lt i then (if ne_eqb (last_notice kind_of lines).0 most apart i then Some Spent else None) else Some NoVersion)

@@ -1,17 +1,16 @@
 -- What calls and changes of policy answer on ledgers, and what the caller and the administrator know after them.
-use Rattle.std.specs.Prelude.{◌≡◌, ℕ, ◌+◌, ◌<◌, ◌≤◌, nat_lt, true, false, List, [], ◌∷◌, ◌++◌, Option, Some, None, if◌then◌else◌}
+use Rattle.std.specs.Prelude.{◌≡◌, ℕ, ◌+◌, ◌<◌, true, false, List, [], ◌∷◌, ◌++◌, Option, Some, None}
 use Rattle.access_vectors.specs.declared.phase.Phase.{Phase}
-use Rattle.access_vectors.specs.declared.phase.Phase.TheVariants as phases
 use Rattle.access_vectors.specs.Phases.{number_of, is_pending}
 use Rattle.gate_rule.specs.declared.view.Item.{Item}
 use Rattle.gate_rule.specs.History.{phase_in, StartsWith}
-use Rattle.gate_rule.specs.Views.{leave_word, one_more, done}
+use Rattle.gate_rule.specs.Views.{leave_word, done, traced}
+use Rattle.epoch_gate.specs.Calls.{HasHadTurn}
 use Rattle.epoch_gate.specs.Seats.{Shown}
-use Rattle.epoch_gate.specs.Known.{seen_by, steps_made, last_step, found_last, step_before, found_before, current_number, current_version, passes_counted, cleared_below, turns_had}
+use Rattle.epoch_gate.specs.Known.{seen_by, last_step, step_before, found_before, current_number, current_version, passes_counted, cleared_below, turns_had}
 use Rattle.gate_ledger.specs.declared.ledger.Line.{Line}
 use Rattle.gate_ledger.specs.declared.ledger.Line.TheVariants.{Noticed, Settled}
-use Rattle.access_vectors.specs.declared.change.NotifyFault.{NotifyFault}
-use Rattle.access_vectors.specs.declared.change.NotifyFault.TheVariants as faults
+use Rattle.access_vectors.specs.Notices.{notice_fault}
 use Rattle.gate_ledger.specs.declared.change.Acknowledged.{Acknowledged}
 use Rattle.gate_ledger.specs.declared.change.Acknowledged.TheVariants.{Done, Busy, Idle}
 use Rattle.gate_ledger.specs.Lines.{kind_of}
@@ -19,12 +18,6 @@ use Rattle.gate_ledger.specs.Lines.{kind_of}
 -- where the policy change stands after a list of lines
 abbrev pub phase_after : List Line → Phase
 phase_after lines = phase_in kind_of lines
-
--- why no change is begun, in the order of the tests: one is pending, there is no such version, or the numbers are spent
-abbrev pub notice_fault : Phase → ℕ → ℕ → ℕ → Option NotifyFault
-notice_fault (phases.Pending pending old new) versions version most = Some (faults.Pending pending)
-notice_fault (phases.Settled settled old) versions version most =
-    if nat_lt version versions then (if nat_lt settled most then None else Some faults.Spent) else Some faults.NoVersion
 
 -- the item of a turn over ledgers, which have no stale slots
 abbrev pub turn_of : Option Line → Option ℕ → Item Line
@@ -43,9 +36,9 @@ module _ {D O : Type 0} where
   abbrev pub HasAddedNone : Shown Line D O → Shown Line D O → Type 0
   HasAddedNone a b = StartsWith (seen_by b) (seen_by a)
 
-  -- a turn was had: there were three steps at least, and the last one passed it on
-  abbrev pub HasHadTurn : Shown Line D O → Shown Line D O → Type 0
-  HasHadTurn s t = (steps_made s + 3 ≤ steps_made t) × (last_step t ≡ done 4 (found_last t) (one_more (found_last t)))
+  -- one turn was had, and between taking it and passing it on there was no step
+  abbrev pub HasTurnAlone : Shown Line D O → Shown Line D O → Type 0
+  HasTurnAlone s t = (turn : HasHadTurn s t) × (t.view.trace ≡ traced turn.taken (last_step t))
 
   -- a call: its line stands behind those that the turn found
   abbrev pub HasCalled : Line → Shown Line D O → Shown Line D O → Type 0

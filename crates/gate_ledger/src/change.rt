@@ -3,8 +3,8 @@
 ghost use Rattle.std.specs.Prelude.{◌≡◌, IfOk, IfErr, OnErr};
 ghost use Rattle.epoch_gate.specs.Seats.{IsOfGate};
 ghost use Rattle.epoch_gate.specs.Known.{IsIdle, seats_made, seats_retired, seen_by, greatest_number, versions_at};
-ghost use Rattle.access_vectors.specs.Notices.{IsRefusal};
-ghost use Rattle.gate_ledger.specs.Changes.{phase_after, notice_fault, HasNotified, HasNotNotified, HasAnswered, HasNoRoom};
+ghost use Rattle.access_vectors.specs.Notices.{notice_fault, IsRefusal};
+ghost use Rattle.gate_ledger.specs.Changes.{phase_after, HasNotified, HasNotNotified, HasAnswered, HasNoRoom};
 
 use crate::ledger::{Ledger, Line};
 use access_vectors::{Decider, NotifyFault};
@@ -30,20 +30,19 @@ pub fn notify<D: Decider, R: Wait>(
     gate: &Gate<Ledger<D>, D>,
     admin: &mut Admin<Ledger<D>, D>,
     ver: u8,
-    most: u32,
 ) -> Result<u32, NotifyFault>
     requires gate { IsOfGate gate.now admin.old }
     requires idle { IsIdle admin.old }
-    requires most { most ≡ greatest_number gate.now }
-    ensures ok { IfOk result (λ number. HasNotified (versions_at D.decides gate.now) ver most number admin.old admin.new) }
-    ensures refused { IfErr result (IsRefusal (notice_fault (phase_after (seen_by admin.new)) (versions_at D.decides gate.now) ver most)) }
+    ensures ok { IfOk result (λ number. HasNotified (versions_at D.decides gate.now) ver (greatest_number gate.now) number admin.old admin.new) }
+    ensures refused { IfErr result (IsRefusal (notice_fault (phase_after (seen_by admin.new)) (versions_at D.decides gate.now) ver (greatest_number gate.now))) }
     ensures err { OnErr result (HasNotNotified admin.old admin.new) }
     ensures seats { (seats_made admin.new ≡ seats_made admin.old) × (seats_retired admin.new ≡ seats_retired admin.old) }
     ensures idle { IsIdle admin.new }
     ensures gate { IsOfGate gate.now admin.new }
 {
+    let _within = admin.current();
     let ledger = gate.take_admin(rt, admin);
-    match ledger.with_notice(gate.decider().versions(), ver, most) {
+    match ledger.with_notice(gate.decider().versions(), ver, gate.most()) {
         Ok(ledger) => {
             let number = ledger.newest;
             gate.raise(admin, ver);

@@ -1,10 +1,10 @@
 //! A list of lines, as the value of a gate.
 
-ghost use Rattle.std.specs.Prelude.{◌≡◌, ◌+◌, ◌<◌, [], ◌∷◌, ◌++◌, None, IfOk, IfErr, OnOk, MatchResult};
+ghost use Rattle.std.specs.Prelude.{◌≡◌, ◌+◌, ◌<◌, ◌≤◌, [], ◌∷◌, ◌++◌, None, IfOk, IfErr, OnOk, MatchResult};
 ghost use Rattle.gate_rule.specs.History.{settled, noticed, settled_in, last_notice, Alternates};
 ghost use Rattle.gate_ledger.specs.Lines.{kind_of};
-ghost use Rattle.access_vectors.specs.Notices.{IsRefusal};
-ghost use Rattle.gate_ledger.specs.Changes.{phase_after, notice_fault};
+ghost use Rattle.access_vectors.specs.Notices.{notice_fault, IsRefusal};
+ghost use Rattle.gate_ledger.specs.Changes.{phase_after};
 
 use access_vectors::{Decider, NotifyFault};
 use gate_rule::Journal;
@@ -104,6 +104,7 @@ impl<D: Decider> Ledger<D> {
     /// as it was, with the fault.
     pub fn with_notice(self, versions: u16, ver: u8, most: u32) -> Result<Self, (Self, NotifyFault)>
         requires lawful { Alternates kind_of versions 0 0 self.lines.items }
+        requires within { (last_notice kind_of self.lines.items).0 ≤ most }
         ensures ok { IfOk result (λ ledger. ledger.lines.items ≡ self.lines.items ++ Line.Noticed ledger.newest ver ∷ []) }
         ensures next { IfOk result (λ ledger. ledger.newest ≡ (last_notice kind_of self.lines.items).0 + 1) }
         ensures allowed { OnOk result (notice_fault (phase_after self.lines.items) versions ver most ≡ None) }
@@ -120,7 +121,7 @@ impl<D: Decider> Ledger<D> {
         if u16::from(ver) >= versions {
             return Err((self, NotifyFault::NoVersion));
         }
-        if newest >= most {
+        if newest == most {
             return Err((self, NotifyFault::Spent));
         }
         match self.with_line(Line::Noticed(newest + 1, ver)) {

@@ -4,7 +4,7 @@ ghost use Rattle.std.specs.Prelude.{◌≡◌, [], ◌∷◌, ◌++◌, OnOk, On
 ghost use Rattle.epoch_gate.specs.Seats.{IsOfGate};
 ghost use Rattle.epoch_gate.specs.Known.{IsIdle, HasPass, own_entries, caller_number, pass_held, pass_number, quota_left};
 ghost use Rattle.gate_ledger.specs.declared.ledger.Line.TheVariants.{Op};
-ghost use Rattle.gate_ledger.specs.Changes.{HasAddedNone, HasCalled, HasHadTurn};
+ghost use Rattle.gate_ledger.specs.Changes.{HasAddedNone, HasCalled, HasTurnAlone};
 
 use crate::ledger::{Ledger, Line};
 use access_vectors::Decider;
@@ -27,7 +27,7 @@ pub fn call<D: Decider, R: Wait>(
     ensures added { OnOk result (HasCalled (Op (caller_number seat.old) mark (pass_number seat.old)) seat.old seat.new) }
     ensures err { OnErr result (own_entries seat.new ≡ own_entries seat.old) }
     ensures none { OnErr result (HasAddedNone seat.old seat.new) }
-    ensures turn { HasHadTurn seat.old seat.new }
+    ensures turn { HasTurnAlone seat.old seat.new }
     ensures number { caller_number seat.new ≡ caller_number seat.old }
     ensures pass { (pass_held seat.new ≡ pass_held seat.old) × (quota_left seat.new ≡ quota_left seat.old) }
     ensures idle { IsIdle seat.new }

@@ -84,6 +84,7 @@ module _ {V E D O : Type 0} (M : Means V E D O) (decides : D → Decisions) (k :
           t = t';
           wide = length-set s.words 4 (one_more g) ∙ r.wide;
           seats = (length-set s.views id v' ∙ r.seats.0, r.seats.1, r.seats.2);
+          first = subst (λ (l : List Role). get_elem? l 0 ≡ some Admin) (sym (map_kept role_of s.views id v v' at refl)) r.first;
           numbers = subst (λ (l : List Role). sum_by is_caller l + r.t.gone ≡ r.t.made) (sym (map_kept role_of s.views id v v' at refl)) r.numbers;
           tickets = subst (λ (l : List Ticket). Tickets l (get_or ws 3 0) (get_or ws 4 0)) (sym (map_moved ticket_of s.views id v' Without refl))
               (tickets_at (set (map ticket_of s.views) id Without) (get_or s.words 3 0) (one_more g) (get_or ws 3 0) (get_or ws 4 0) (word_else s.words 4 3 (one_more g) (λ e. omega arith)) (word_here s.words 4 (one_more g) (let h = r.wide in omega arith))
@@ -139,31 +140,17 @@ module _ {V E D O : Type 0} (M : Means V E D O) (decides : D → Decisions) (k :
         own Spent e h = absurd (subst IsLive e alive)
         own (Caller n) e h = (h.0, h.1, h.2, ap (λ (x : Role). mine_in M x v.mine (M.history y)) e, h.4)
         own Admin e h =
-            let c = (control Admin e).0 refl in (
-              h.0,
-              h.1,
-              h.2,
-              (λ i x there. ended x (h.3 i x there)),
-              h.4,
-              h.5,
-              h.6,
-              h.7,
-              c,
-              c,
-              h.10,
-              h.11,
-              each_more (λ i (turn : Item E). IsTurn M (fixed_of M k) turn) v.desk.turns (item_of M v y) (is_turn (has_seen M decides k s r id v w at turn).2) h.12,
-              h.13,
-            )
+            let c = (control Admin e).0 refl in
+            record { first = h.first; made = h.made; retired = h.retired; ended = λ i x there. ended x (h.ended i x there); newest = h.newest; version = h.version; counted = h.counted; clear = h.clear; controls_are = c; known = c; fixed = h.fixed; outside = h.outside; turns = each_more (λ i (turn : Item E). IsTurn M (fixed_of M k) turn) v.desk.turns (item_of M v y) (is_turn (has_seen M decides k s r id v w at turn).2) h.turns; once = h.once }
 
         not_admin : (j : ℕ) → j ≢ id → (u : View E D O) → FitsRole M (fixed_of M k) r.t j u Admin → v.role ≡ Admin → ⊥
-        not_admin j other u h e = other (h.0 ∙ sym (subst (FitsRole M (fixed_of M k) r.t id v) e (r.each id v at).role).0)
+        not_admin j other u h e = other (h.first ∙ sym (subst (FitsRole M (fixed_of M k) r.t id v) e (r.each id v at).role).first)
 
         others : (j : ℕ) → j ≢ id → (u : View E D O) → (role : Role) → FitsRole M (fixed_of M k) r.t j u role → FitsRole M (fixed_of M k) (record r.t { log = M.history y; settled = settled_in M.kind (M.history y); forced = forced_in M.kind (M.history y) }) j u role
         others j other u Spent h = h
         others j other u (Caller n) h = (h.0, h.1, h.2, h.3 ∙ sym (grown.others n (other_number v.role (r.each id v at).role n j other h.1)), h.4)
         others j other u Admin h =
-            (h.0, h.1, h.2, (λ i x there. ended x (h.3 i x there)), h.4, h.5, h.6, h.7, (control v.role refl).1 (not_admin j other u h) ∙ h.8, h.9, h.10, h.11, h.12, h.13)
+            record { first = h.first; made = h.made; retired = h.retired; ended = λ i x there. ended x (h.ended i x there); newest = h.newest; version = h.version; counted = h.counted; clear = h.clear; controls_are = (control v.role refl).1 (not_admin j other u h) ∙ h.controls_are; known = h.known; fixed = h.fixed; outside = h.outside; turns = h.turns; once = h.once }
 
     -- a caller has the turn, so the administrator has not
     caller_last : (n : ℕ) → v.role ≡ Caller n → last_notice M.kind r.t.log ≡ (r.t.newest, r.t.version r.t.newest)
@@ -263,20 +250,20 @@ module _ {V E D O : Type 0} (M : Means V E D O) (decides : D → Decisions) (k :
             ext.0
         by_role Admin is =
             let h = subst (FitsRole M (fixed_of M k) r.t id v) is (r.each id v at).role in
-            let last : last_notice M.kind (M.history y) ≡ (r.t.newest, r.t.version r.t.newest) = ext.1 is ∙ (λ i. (h.4 i, h.5 i)) in
+            let last : last_notice M.kind (M.history y) ≡ (r.t.newest, r.t.version r.t.newest) = ext.1 is ∙ (λ i. (h.newest i, h.version i)) in
             ⊎_elim
             (λ same.
             let e : M.history y ≡ r.t.log = same ∙ seen in
             passed_on y (grown_same v.role (M.history y) e last) alive
-            (λ role z. ((λ _. ap (controls M.kind) e ∙ (h.8 ∙ sym (entries_same v.desk.turns (item_of M v y) (ap (entry_added v.seen) same ∙ nothing_added v.seen)))), (λ no. absurd (no (sym z ∙ is))))) is_of)
+            (λ role z. ((λ _. ap (controls M.kind) e ∙ (h.controls_are ∙ sym (entries_same v.desk.turns (item_of M v y) (ap (entry_added v.seen) same ∙ nothing_added v.seen)))), (λ no. absurd (no (sym z ∙ is))))) is_of)
             (λ added.
             let e = added.0 in
             let more : M.history y ≡ r.t.log ++ e ∷ [] = added.1 ∙ ap (λ (l : List E). l ++ e ∷ []) seen in
             let own = subst (λ (x : Role). IsOwn M.kind v x e) is added.2 in
-            let g = own_control (M.history y) e more last h.4 h.5 h.7 own in
+            let g = own_control (M.history y) e more last h.newest h.version h.clear own in
             passed_on y (subst (λ (x : Role). Grown r.t x (M.history y)) (sym is) g.0) alive
             (λ role z. (
-              (λ _. ap (controls M.kind) more ∙ (controls_own M.kind r.t.log e g.1 ∙ (ap (λ (l : List E). l ++ e ∷ []) h.8
+              (λ _. ap (controls M.kind) more ∙ (controls_own M.kind r.t.log e g.1 ∙ (ap (λ (l : List E). l ++ e ∷ []) h.controls_are
                   ∙ sym (entries_more v.desk.turns (item_of M v y) e (ap (entry_added v.seen) added.1 ∙ one_added v.seen e))))),
               (λ no. absurd (no (sym z ∙ is))),
             )) is_of)

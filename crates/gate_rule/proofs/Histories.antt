@@ -136,7 +136,7 @@ module _ {E : Type 0} (kind : E → Kind) where
       let whole : log ≡ a ++ (m.0 ++ hb.0) = hb.1 ∙ (ap (λ (l : List E). l ++ hb.0) m.1 ∙ append_assoc a m.0 hb.0) in
       ap (controls kind) m.1 ∙ controls_between a m.0 hb.0 (ap (controls kind) (sym whole) ∙ same)
 
-  newest_apart : (p : ℕ × ℕ) (k : Kind) → (noticed (p.0, 0) k).0 ≡ (noticed p k).0
+  pub newest_apart : (p : ℕ × ℕ) (k : Kind) → (noticed (p.0, 0) k).0 ≡ (noticed p k).0
   newest_apart p (Call caller mark number) = refl
   newest_apart p (Notice number version) = refl
   newest_apart p (Ack number forced) = refl

@@ -3,6 +3,7 @@ pub mod Serving
 pub mod Passing
 pub mod RowsKept
 pub mod Histories
+pub mod Naming
 pub mod Steps
 pub mod Turns
 pub mod Giving

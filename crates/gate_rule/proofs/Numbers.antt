@@ -50,18 +50,18 @@ module _ {V E D O : Type 0} (M : Means V E D O) (decides : D → Decisions) (k :
 
     -- no other seat is the administrator's
     pub one_admin : (j : ℕ) → j ≢ id → (u : View E D O) → (t : Truth E) → FitsRole M (fixed_of M k) t j u Admin → ⊥
-    one_admin j other u t h = other (h.0 ∙ sym admin_is.0)
+    one_admin j other u t h = other (h.first ∙ sym admin_is.first)
 
     -- as many callers have a pass of a parity as are not retired at most
     pub out_within : (p : ℕ) → sum_by (inside_at p) (map rights_of s.views) + length v.desk.ended ≤ v.desk.made
     out_within p =
         let le = sum_under rights_of role_of (inside_at p) is_caller s.views (λ j u there. one j u u.role refl (r.each j u there).role) in
-        let n = r.numbers in let h = admin_is in let a = h.1 in let b = h.2 in omega arith
+        let n = r.numbers in let h = admin_is in let a = h.made in let b = h.retired in omega arith
       where
         one : (j : ℕ) (u : View E D O) (role : Role) → u.role ≡ role → FitsRole M (fixed_of M k) r.t j u role → inside_at p u.rights ≤ is_caller u.role
         one j u Spent e h = let z : at_parity p u.rights.pass ≡ 0 = ap (at_parity p) h.1 in omega arith
         one j u (Caller n) e h = let z : is_caller u.role ≡ 1 = ap is_caller e in let m = passing.at_most p u.rights.pass in omega arith
-        one j u Admin e h = let z : at_parity p u.rights.pass ≡ 0 = ap (at_parity p) h.11 in omega arith
+        one j u Admin e h = let z : at_parity p u.rights.pass ≡ 0 = ap (at_parity p) h.outside in omega arith
 
   -- raising the number: one fetch_add of the gate word
   pub raise : (slots id : ℕ) (me : Me (Option V) (View E D O)) (w by ver : ℕ) → me.0.role ≡ Admin → me.0.ticket ≡ Served w → settled_in M.kind me.0.seen ≡ me.0.desk.newest
@@ -75,7 +75,7 @@ module _ {V E D O : Type 0} (M : Means V E D O) (decides : D → Decisions) (k :
       let v' = raised v g l in
       let h = admin_is s r id v at is in
       let alive = admin_live s r id v at is in
-      let named : v.fixed ≡ Some (fixed_of M k) = h.10 in
+      let named : v.fixed ≡ Some (fixed_of M k) = h.fixed in
       let asked = ask (fixed_of M k) named in
       let seen = has_seen M decides k s r id v w at turn in
       let rs = map rights_of s.views in
@@ -83,15 +83,15 @@ module _ {V E D O : Type 0} (M : Means V E D O) (decides : D → Decisions) (k :
       let c = r.t.newest in
       let b = small M decides k s r in
       let f = passing.fields rs c r.t.settled r.t.forced r.t.counted un r.t.clear r.t.version g (get_or s.words 1 0) (get_or s.words 2 0) r.passes b.0 b.1 in
-      let rest : r.t.settled ≡ c = sym r.acknowledged.0 ∙ (ap (settled_in M.kind) (sym seen.1) ∙ (at_rest ∙ h.4)) in
-      let below : c + 1 < 1048576 = let m = r.dated.within in let x = asked.0 in let y = h.4 in omega arith in
+      let rest : r.t.settled ≡ c = sym r.acknowledged.0 ∙ (ap (settled_in M.kind) (sym seen.1) ∙ (at_rest ∙ h.newest)) in
+      let below : c + 1 < 1048576 = let m = r.dated.within in let x = asked.0 in let y = h.newest in omega arith in
       let ver_small : ver < 256 = let x = asked.1 in let y = r.dated.bounds in omega arith in
-      let amount' : by + r.t.version c * 68719476736 ≡ 17592186044416 + ver * 68719476736 = subst (λ (x : ℕ). by + x * 68719476736 ≡ 17592186044416 + ver * 68719476736) h.5 amount in
+      let amount' : by + r.t.version c * 68719476736 ≡ 17592186044416 + ver * 68719476736 = subst (λ (x : ℕ). by + x * 68719476736 ≡ 17592186044416 + ver * 68719476736) h.version amount in
       let raised_passes = passing.raises rs c r.t.settled r.t.forced r.t.counted un r.t.clear r.t.version g (get_or s.words 1 0) (get_or s.words 2 0) r.passes by ver rest below b.1 ver_small amount' in
       let few = passing.few rs c r.t.settled r.t.forced r.t.counted un r.t.clear r.t.version g (get_or s.words 1 0) (get_or s.words 2 0) r.passes in
       let there = put_here r.t.version (c + 1) ver in
       let left_is = passing.gate_fields l (c + 1) ver r.passes.entered (passing.raised_word rs c r.t.settled r.t.forced r.t.counted un r.t.clear r.t.version g (get_or s.words 1 0) (get_or s.words 2 0) r.passes by ver below b.1 ver_small amount') (below, ver_small, (let z = few in omega arith)) in
-      let first : id ≡ 0 = h.0 in
+      let first : id ≡ 0 = h.first in
       let in_c = passing.counted_in rs c r.t.settled r.t.forced r.t.counted un r.t.clear r.t.version g (get_or s.words 1 0) (get_or s.words 2 0) r.passes in
       let last : last_notice M.kind r.t.log ≡ (c, r.t.version c) = ⊎_elim (λ e. e) (λ p. let z = p.5 in absurd (omega arith)) r.noticed in
       let t' : Truth E = record r.t { newest = c + 1; counted = r.passes.entered - r.t.counted; version = put r.t.version (c + 1) ver } in
@@ -99,6 +99,7 @@ module _ {V E D O : Type 0} (M : Means V E D O) (decides : D → Decisions) (k :
         t = t';
         wide = length-set s.words 0 l ∙ r.wide;
         seats = (length-set s.views id v' ∙ r.seats.0, r.seats.1, r.seats.2);
+        first = subst (λ (l : List Role). get_elem? l 0 ≡ some Admin) (sym (map_kept role_of s.views id v v' at refl)) r.first;
         numbers = subst (λ (x : List Role). sum_by is_caller x + r.t.gone ≡ r.t.made) (sym (map_kept role_of s.views id v v' at refl)) r.numbers;
         tickets = subst (λ (x : List Ticket). Tickets x (get_or ws 3 0) (get_or ws 4 0)) (sym (map_kept ticket_of s.views id v v' at refl))
             (tickets_at (map ticket_of s.views) (get_or s.words 3 0) (get_or s.words 4 0) (get_or ws 3 0) (get_or ws 4 0) (word_else s.words 0 3 l (λ e. omega arith)) (word_else s.words 0 4 l (λ e. omega arith)) r.tickets);
@@ -110,7 +111,7 @@ module _ {V E D O : Type 0} (M : Means V E D O) (decides : D → Decisions) (k :
         acknowledged = r.acknowledged;
         noticed = inr (v', subst (λ (j : ℕ). get_elem? (set s.views id v') j ≡ some v') first (set_here s.views id v' (within s.views id v at)), ap has_turn turn, is, ap (λ (p : ℕ × ℕ). p.0) last ∙ sym rest, ap (λ (x : ℕ). x + 1) (sym rest));
         dated = record {
-          within = ((let m = asked.0 in let y = h.4 in omega arith), r.dated.within.1);
+          within = ((let m = asked.0 in let y = h.newest in omega arith), r.dated.within.1);
           bounds = r.dated.bounds;
           known = λ m le. dite (ℕ_discrete m (c + 1))
               (λ e. subst (λ (x : ℕ). put r.t.version (c + 1) ver x < (decides (fixed_of M k).decider).versions) (sym e) (subst (λ (x : ℕ). x < (decides (fixed_of M k).decider).versions) (sym there) asked.1))
@@ -128,7 +129,7 @@ module _ {V E D O : Type 0} (M : Means V E D O) (decides : D → Decisions) (k :
               promised = z.promised;
               noticed = (let y = z.noticed in omega arith);
               role = subst (FitsRole M (fixed_of M k) (record r.t { newest = r.t.newest + 1; counted = r.passes.entered - r.t.counted; version = put r.t.version (r.t.newest + 1) ver }) id v') (sym is)
-                  (h.0, h.1, h.2, h.3, ap (λ (x : ℕ). x + 1) h.4, left_is.1 ∙ sym there, (λ i. f.2 i - h.6 i), h.7, h.8, h.9, h.10, h.11, h.12, h.13);
+                  (record { first = h.first; made = h.made; retired = h.retired; ended = h.ended; newest = ap (λ (x : ℕ). x + 1) h.newest; version = left_is.1 ∙ sym there; counted = λ i. f.2 i - h.counted i; clear = h.clear; controls_are = h.controls_are; known = h.known; fixed = h.fixed; outside = h.outside; turns = h.turns; once = h.once });
             })
             (λ j u other e. let z = r.each j u e in record { seen = z.seen; promised = z.promised; noticed = (let y = z.noticed in omega arith); role = others s r id v at is ver j other u u.role z.role });
         unmade = r.unmade;
@@ -139,9 +140,9 @@ module _ {V E D O : Type 0} (M : Means V E D O) (decides : D → Decisions) (k :
         kept,
         (
           refl,
-          r.passes.gate_is ∙ (λ i. gate_word (sym h.4 i) (sym h.5 i) (sym f.2 i)),
-          (subst (λ (x : ℕ). x + 1 < 1048576) (sym h.4) below, subst (λ (x : ℕ). x < 256) (sym h.5) b.1, subst (λ (x : ℕ). x < 68719476736) (sym f.2) (let z = few in omega arith)),
-          (let x = f.2 in let y = h.6 in let z = in_c in omega arith),
+          r.passes.gate_is ∙ (λ i. gate_word (sym h.newest i) (sym h.version i) (sym f.2 i)),
+          (subst (λ (x : ℕ). x + 1 < 1048576) (sym h.newest) below, subst (λ (x : ℕ). x < 256) (sym h.version) b.1, subst (λ (x : ℕ). x < 68719476736) (sym f.2) (let z = few in omega arith)),
+          (let x = f.2 in let y = h.counted in let z = in_c in omega arith),
           stood M decides k s r id v at alive 0,
         ),
       )
@@ -166,10 +167,10 @@ module _ {V E D O : Type 0} (M : Means V E D O) (decides : D → Decisions) (k :
       let un = (k.seats - r.t.made) * k.quota in
       let c = r.t.newest in
       let q = (c + 1) % 2 in
-      let word_is : i ≡ 1 + (c + 1) % 2 = at_word ∙ ap leave_word (ap (λ (x : ℕ). x + 1) h.4) in
+      let word_is : i ≡ 1 + (c + 1) % 2 = at_word ∙ ap leave_word (ap (λ (x : ℕ). x + 1) h.newest) in
       let g_is : g ≡ left_of (get_or s.words 1 0) (get_or s.words 2 0) ((c + 1) % 2) = ap (λ (x : ℕ). get_or s.words x 0) word_is ∙ counter_is s.words ((c + 1) % 2) (omega arith) in
       let sum = r.passes.there in
-      let apart : r.t.settled ≢ c = λ e. pending (ap (settled_in M.kind) seen.1 ∙ (r.acknowledged.0 ∙ (e ∙ sym h.4))) in
+      let apart : r.t.settled ≢ c = λ e. pending (ap (settled_in M.kind) seen.1 ∙ (r.acknowledged.0 ∙ (e ∙ sym h.newest))) in
       let next : c ≡ r.t.settled + 1 = let z = r.passes.between in omega arith in
       let b = eqb (r.t.counted - g) 0 in
       let t' : Truth E = record r.t { clear = cond (eqb (r.t.counted - g) 0) r.t.newest r.t.clear } in
@@ -180,12 +181,13 @@ module _ {V E D O : Type 0} (M : Means V E D O) (decides : D → Decisions) (k :
         t = t';
         wide = r.wide;
         seats = (length-set s.views id v' ∙ r.seats.0, r.seats.1, r.seats.2);
+        first = subst (λ (l : List Role). get_elem? l 0 ≡ some Admin) (sym (map_kept role_of s.views id v v' at refl)) r.first;
         numbers = subst (λ (x : List Role). sum_by is_caller x + r.t.gone ≡ r.t.made) (sym (map_kept role_of s.views id v v' at refl)) r.numbers;
         tickets = subst (λ (x : List Ticket). Tickets x (get_or s.words 3 0) (get_or s.words 4 0)) (sym (map_kept ticket_of s.views id v v' at refl)) r.tickets;
         passes = subst (λ (x : List Rights). Passes x c r.t.settled r.t.forced r.t.counted un (cond (eqb (r.t.counted - g) 0) c r.t.clear) r.t.version (get_or s.words 0 0) (get_or s.words 1 0) (get_or s.words 2 0)) (sym (map_kept rights_of s.views id v v' at refl)) cleared;
         rows = r.rows;
         acknowledged = r.acknowledged;
-        noticed = ⊎_elim (λ e. inl e) (λ p. inr (v', subst (λ (j : ℕ). get_elem? (set s.views id v') j ≡ some v') h.0 (set_here s.views id v' (within s.views id v at)), ap has_turn turn, is, p.4, p.5)) r.noticed;
+        noticed = ⊎_elim (λ e. inl e) (λ p. inr (v', subst (λ (j : ℕ). get_elem? (set s.views id v') j ≡ some v') h.first (set_here s.views id v' (within s.views id v at)), ap has_turn turn, is, p.4, p.5)) r.noticed;
         dated = r.dated;
         begins = r.begins;
         promised = r.promised;
@@ -196,7 +198,7 @@ module _ {V E D O : Type 0} (M : Means V E D O) (decides : D → Decisions) (k :
               promised = z.promised;
               noticed = z.noticed;
               role = subst (FitsRole M (fixed_of M k) (record r.t { clear = cond (eqb (r.t.counted - g) 0) r.t.newest r.t.clear }) id v') (sym is)
-                  (h.0, h.1, h.2, h.3, h.4, h.5, h.6, (λ j. cond (eqb (h.6 j - g) 0) (h.4 j) (h.7 j)), h.8, h.9, h.10, h.11, h.12, h.13);
+                  (record { first = h.first; made = h.made; retired = h.retired; ended = h.ended; newest = h.newest; version = h.version; counted = h.counted; clear = λ j. cond (eqb (h.counted j - g) 0) (h.newest j) (h.clear j); controls_are = h.controls_are; known = h.known; fixed = h.fixed; outside = h.outside; turns = h.turns; once = h.once });
             })
             (λ j u other e. let z = r.each j u e in record { seen = z.seen; promised = z.promised; noticed = z.noticed; role = others s r id v at is g j other u u.role z.role });
         unmade = r.unmade;
@@ -205,7 +207,7 @@ module _ {V E D O : Type 0} (M : Means V E D O) (decides : D → Decisions) (k :
         keeps,
         tt,
         subst (λ (ws : List ℕ). Kept M decides k (record { words = ws; homes = s.homes; views = set s.views id v' })) (sym (word_same s.words i)) kept,
-        (refl, (let y = h.6 in omega arith), (let y = h.6 in let o = out_within s r id v at is ((c + 1) % 2) in omega arith), stood M decides k s r id v at alive i),
+        (refl, (let y = h.counted in omega arith), (let y = h.counted in let o = out_within s r id v at is ((c + 1) % 2) in omega arith), stood M decides k s r id v at alive i),
       )
     where
       clears : (s : State (Option V) (View E D O)) (r : Kept M decides k s) (b : Bool)
@@ -230,5 +232,5 @@ module _ {V E D O : Type 0} (M : Means V E D O) (decides : D → Decisions) (k :
         keeps,
         tt,
         loads M decides k s r id v at (traced v.trace (done 0 g g)) v.served 0 alive,
-        (refl, (let h = admin_is s r id v at is in let a = h.1 in let b = h.2 in let n = r.numbers in omega arith), stood M decides k s r id v at alive 0),
+        (refl, (let h = admin_is s r id v at is in let a = h.made in let b = h.retired in let n = r.numbers in omega arith), stood M decides k s r id v at alive 0),
       )

@@ -58,8 +58,8 @@ module _ {V E D O : Type 0} (M : Means V E D O) (decides : D → Decisions) (k :
       → Splits (Kept M decides k) id v (with_seat v) (new_seat v)
   make id v is room s r at =
       let h = admin_is M decides k s r id v at is in
-      let named : v.fixed ≡ Some (fixed_of M k) = h.10 in
-      let open_seat : r.t.made < k.seats = let a = room (fixed_of M k) named in let b = h.1 in omega arith in
+      let named : v.fixed ≡ Some (fixed_of M k) = h.fixed in
+      let open_seat : r.t.made < k.seats = let a = room (fixed_of M k) named in let b = h.made in omega arith in
       let v' = with_seat v in
       let new = new_seat v in
       let before = set s.views id v' in
@@ -77,6 +77,7 @@ module _ {V E D O : Type 0} (M : Means V E D O) (decides : D → Decisions) (k :
         t = t';
         wide = r.wide;
         seats = ((let a = length-append before (new ∷ []) in let b = length-set s.views id v' in let c = r.seats.0 in omega arith), (let q = open_seat in omega arith), r.seats.2);
+        first = subst (λ (l : List Role). get_elem? l 0 ≡ some Admin) (sym roles_are) (at_longer (map role_of s.views) (Caller v.desk.made ∷ []) 0 Admin r.first);
         numbers = subst (λ (l : List Role). sum_by is_caller l + r.t.gone ≡ r.t.made + 1) (sym roles_are) (let n = r.numbers in omega (arith, sum_by_push is_caller (map role_of s.views) (Caller v.desk.made)));
         tickets = subst (λ (l : List Ticket). Tickets l (get_or s.words 3 0) (get_or s.words 4 0)) (sym tickets_are) (serving.joins (map ticket_of s.views) (get_or s.words 3 0) (get_or s.words 4 0) r.tickets);
         passes = subst (λ (l : List Rights). Passes l r.t.newest r.t.settled r.t.forced r.t.counted ((k.seats - (r.t.made + 1)) * k.quota) r.t.clear r.t.version (get_or s.words 0 0) (get_or s.words 1 0) (get_or s.words 2 0)) (sym rights_are)
@@ -110,7 +111,7 @@ module _ {V E D O : Type 0} (M : Means V E D O) (decides : D → Decisions) (k :
               promised = z.promised;
               noticed = z.noticed;
               role = subst (FitsRole M (fixed_of M k) (record r.t { made = r.t.made + 1; holder = put r.t.holder r.t.made here; live = put r.t.live r.t.made true }) id v') (sym is)
-                  (h.0, ap (λ (x : ℕ). x + 1) h.1, h.2, (λ i e there. ended_made r.t here e (h.3 i e there)), h.4, h.5, h.6, h.7, h.8, h.9, h.10, h.11, h.12, h.13);
+                  (record { first = h.first; made = ap (λ (x : ℕ). x + 1) h.made; retired = h.retired; ended = λ i e there. ended_made r.t here e (h.ended i e there); newest = h.newest; version = h.version; counted = h.counted; clear = h.clear; controls_are = h.controls_are; known = h.known; fixed = h.fixed; outside = h.outside; turns = h.turns; once = h.once });
             })
             (λ j u other e. let z = r.each j u e in record {
               seen = z.seen;
@@ -124,7 +125,7 @@ module _ {V E D O : Type 0} (M : Means V E D O) (decides : D → Decisions) (k :
       new_role : (r : Kept M decides k s) → FitsRole M (fixed_of M k) r.t id v Admin → v.fixed ≡ Some (fixed_of M k) → (here : ℕ)
           → FitsRole M (fixed_of M k) (record r.t { made = r.t.made + 1; holder = put r.t.holder r.t.made here; live = put r.t.live r.t.made true }) here (new_seat v) (Caller v.desk.made)
       new_role r h named here =
-          subst (λ (x : ℕ). FitsRole M (fixed_of M k) (record r.t { made = r.t.made + 1; holder = put r.t.holder r.t.made here; live = put r.t.live r.t.made true }) here (new_seat v) (Caller x)) (sym h.1)
+          subst (λ (x : ℕ). FitsRole M (fixed_of M k) (record r.t { made = r.t.made + 1; holder = put r.t.holder r.t.made here; live = put r.t.live r.t.made true }) here (new_seat v) (Caller x)) (sym h.made)
           (omega arith, put_here r.t.holder r.t.made here, put_here r.t.live r.t.made true, sym (r.unmade r.t.made (omega arith)), named)
 
   -- a retired number changes nothing of the other seats
@@ -178,6 +179,7 @@ module _ {V E D O : Type 0} (M : Means V E D O) (decides : D → Decisions) (k :
         t = t';
         wide = r.wide;
         seats = (length-set before other spent ∙ (length-set s.views id v' ∙ r.seats.0), r.seats.1, r.seats.2);
+        first = subst (λ (l : List Role). get_elem? l 0 ≡ some Admin) (sym roles_are) (set_else (map role_of s.views) other 0 Spent (λ e. apart (sym e ∙ sym h.first)) ∙ r.first);
         numbers = subst (λ (l : List Role). sum_by is_caller l + (r.t.gone + 1) ≡ r.t.made) (sym roles_are)
             (let x = sum_set is_caller (map role_of s.views) other (Caller n) Spent (at_map role_of s.views other w old ∙ ap some caller) in let y = r.numbers in omega arith);
         tickets = subst (λ (l : List Ticket). Tickets l (get_or s.words 3 0) (get_or s.words 4 0)) (sym tickets_are) r.tickets;
@@ -187,7 +189,7 @@ module _ {V E D O : Type 0} (M : Means V E D O) (decides : D → Decisions) (k :
         acknowledged = r.acknowledged;
         noticed = ⊎_elim (λ e. inl e) (λ p.
             let u = kept_at (λ (x : View E D O). (has_turn x.ticket ≡ true) × (x.role ≡ Admin)) s.views id v v' at (λ (g : _). g) 0 p.0 p.1 (p.2, p.3) in
-            inr (u.0, set_else before other 0 spent (λ e. apart (sym e ∙ sym h.0)) ∙ u.1, u.2.0, u.2.1, p.4, p.5)) r.noticed;
+            inr (u.0, set_else before other 0 spent (λ e. apart (sym e ∙ sym h.first)) ∙ u.1, u.2.0, u.2.1, p.4, p.5)) r.noticed;
         dated = r.dated;
         begins = r.begins;
         promised = r.promised;
@@ -215,26 +217,26 @@ module _ {V E D O : Type 0} (M : Means V E D O) (decides : D → Decisions) (k :
               seen = longer_fits (fixed_of M k) r.t.log v.seen w.seen r.t.newest (StartsWith r.t.log) mine.seen fit.seen;
               promised = longer_fits (fixed_of M k) r.t.log v.seen w.seen r.t.newest (M.promise (fixed_of M k).opening (fixed_of M k).decider) mine.promised fit.promised;
               noticed = longer_fits (fixed_of M k) r.t.log v.seen w.seen r.t.newest (λ l. (last_notice M.kind l).0 ≤ r.t.newest) mine.noticed fit.noticed;
-              role = subst (FitsRole M (fixed_of M k) (record r.t { gone = r.t.gone + 1; live = put r.t.live n false }) id v') (sym is) (
-                h.0,
-                h.1,
-                (let x = length-append v.desk.ended ((record { number = caller_of w.role; entries = w.mine }) ∷ []) in let y = h.2 in omega arith),
-                each_more (λ i (e : Ended E). FitsEnded M (record r.t { gone = r.t.gone + 1; live = put r.t.live n false }) e) v.desk.ended (record { number = caller_of w.role; entries = w.mine })
+              role = subst (FitsRole M (fixed_of M k) (record r.t { gone = r.t.gone + 1; live = put r.t.live n false }) id v') (sym is) (record {
+                first = h.first;
+                made = h.made;
+                retired = (let x = length-append v.desk.ended ((record { number = caller_of w.role; entries = w.mine }) ∷ []) in let y = h.retired in omega arith);
+                ended = each_more (λ i (e : Ended E). FitsEnded M (record r.t { gone = r.t.gone + 1; live = put r.t.live n false }) e) v.desk.ended (record { number = caller_of w.role; entries = w.mine })
                     (let num : caller_of w.role ≡ n = ap caller_of caller in
                     (subst (λ (x : ℕ). x < r.t.made) (sym num) own.0, ap (put r.t.live n false) num ∙ put_here r.t.live n false, own.3 ∙ ap (λ (x : ℕ). of_caller M.kind x r.t.log) (sym num)))
-                    (λ i e at_i. let z = h.3 i e at_i in (z.0, put_else r.t.live n false e.number (λ q. let a : r.t.live e.number ≡ true = ap r.t.live q ∙ own.2 in let b = z.1 in absurd (cc)) ∙ z.1, z.2)),
-                h.4,
-                h.5,
-                h.6,
-                h.7,
-                h.8,
-                longer_controls r.t.log v.seen w.seen mine.seen fit.seen (h.8 ∙ sym h.9) ∙ h.9,
-                h.10,
-                h.11,
-                h.12,
-                once_more (λ (e : Ended E). e.number) v.desk.ended (record { number = caller_of w.role; entries = w.mine }) h.13
-                    (λ i e at_i q. let a : r.t.live e.number ≡ true = ap r.t.live (q ∙ ap caller_of caller) ∙ own.2 in let b = (h.3 i e at_i).1 in absurd (cc)),
-              );
+                    (λ i e at_i. let z = h.ended i e at_i in (z.0, put_else r.t.live n false e.number (λ q. let a : r.t.live e.number ≡ true = ap r.t.live q ∙ own.2 in let b = z.1 in absurd (cc)) ∙ z.1, z.2));
+                newest = h.newest;
+                version = h.version;
+                counted = h.counted;
+                clear = h.clear;
+                controls_are = h.controls_are;
+                known = longer_controls r.t.log v.seen w.seen mine.seen fit.seen (h.controls_are ∙ sym h.known) ∙ h.known;
+                fixed = h.fixed;
+                outside = h.outside;
+                turns = h.turns;
+                once = once_more (λ (e : Ended E). e.number) v.desk.ended (record { number = caller_of w.role; entries = w.mine }) h.once
+                    (λ i e at_i q. let a : r.t.live e.number ≡ true = ap r.t.live (q ∙ ap caller_of caller) ∙ own.2 in let b = (h.ended i e at_i).1 in absurd (cc));
+              });
             })
             (λ j u not_id e not_other. let z = r.each j u e in record {
               seen = z.seen;
@@ -256,6 +258,7 @@ module _ {V E D O : Type 0} (M : Means V E D O) (decides : D → Decisions) (k :
         t = record { log = []; made = 0; gone = 0; holder = λ n. 0; live = λ n. false; newest = 0; settled = 0; counted = 0; clear = 0; forced = 0; version = λ n. 0 };
         wide = wide;
         seats = (refl, omega arith, seats);
+        first = refl;
         numbers = refl;
         tickets = record { drawn = 0; served = 0; owner = λ n. 0; next_is = empty 3; serving_is = empty 4; counted = refl; each = one_only (λ j t. FitsTicket 0 0 (λ n. 0) j t) Without tt };
         passes = record {
@@ -277,7 +280,7 @@ module _ {V E D O : Type 0} (M : Means V E D O) (decides : D → Decisions) (k :
         promised = begins;
         place = inl (x, refl, fresh, one_only (λ j (u : View E D O). has_turn u.ticket ≡ false) (first_seat (fixed_of M k)) refl, ap M.opening first, decider, keeps);
         each = one_only (Fits M (fixed_of M k) (record { log = []; made = 0; gone = 0; holder = λ n. 0; live = λ n. false; newest = 0; settled = 0; counted = 0; clear = 0; forced = 0; version = λ n. 0 })) (first_seat (fixed_of M k))
-            (record { seen = ([], refl); promised = begins; noticed = omega arith; role = (refl, refl, refl, (λ i e there. absurd (some-ne-none e (sym there))), refl, refl, refl, refl, refl, refl, refl, refl, (λ i turn there. absurd (some-ne-none turn (sym there))), (λ i e there. absurd (some-ne-none e (sym there)))) });
+            (record { seen = ([], refl); promised = begins; noticed = omega arith; role = record { first = refl; made = refl; retired = refl; ended = λ i e there. absurd (some-ne-none e (sym there)); newest = refl; version = refl; counted = refl; clear = refl; controls_are = refl; known = refl; fixed = refl; outside = refl; turns = λ i turn there. absurd (some-ne-none turn (sym there)); once = λ i e there. absurd (some-ne-none e (sym there)) } });
         unmade = λ n le. refl;
       }
 
@@ -290,13 +293,13 @@ module _ {V E D O : Type 0} (M : Means V E D O) (decides : D → Decisions) (k :
       h = admin_is M decides k s r id v at is
 
       no_callers : sum_by is_caller (map role_of s.views) ≡ 0
-      no_callers = let n = r.numbers in let a = h.1 in let b = h.2 in let c = all in omega arith
+      no_callers = let n = r.numbers in let a = h.made in let b = h.retired in let c = all in omega arith
 
       nobody : (j : ℕ) (u : View E D O) → get_elem? s.views j ≡ some u → (role : Role) → u.role ≡ role → FitsRole M (fixed_of M k) r.t j u role → has_turn u.ticket ≡ false
       nobody j u there Spent e f = f.0
       nobody j u there (Caller n) e f = let le = sum_at is_caller (map role_of s.views) j (Caller n) (at_map role_of s.views j u there ∙ ap some e) in let z = no_callers in absurd (omega arith)
       nobody j u there Admin e f =
-          let same : u ≡ v = same_place s.views id u v (subst (λ (i : ℕ). get_elem? s.views i ≡ some u) (f.0 ∙ sym h.0) there) at in ap (λ (x : View E D O). has_turn x.ticket) same ∙ ap has_turn idle
+          let same : u ≡ v = same_place s.views id u v (subst (λ (i : ℕ). get_elem? s.views i ≡ some u) (f.first ∙ sym h.first) there) at in ap (λ (x : View E D O). has_turn x.ticket) same ∙ ap has_turn idle
 
       last : last_notice M.kind r.t.log ≡ (r.t.newest, r.t.version r.t.newest)
       last = ⊎_elim (λ e. e) (λ p. let o : has_turn p.0.ticket ≡ false = nobody 0 p.0 p.1 p.0.role refl (r.each 0 p.0 p.1).role in let t = p.2 in absurd (cc)) r.noticed
@@ -310,13 +313,13 @@ module _ {V E D O : Type 0} (M : Means V E D O) (decides : D → Decisions) (k :
         p.1,
         record {
           value = λ f e. subst (λ (y : Fixed D O). IsOf M y p.0) (same f e) (p.4, p.5, subst (M.promise (fixed_of M k).opening (fixed_of M k).decider) (sym p.2) r.promised, p.6);
-          controls_are = ap (controls M.kind) p.2 ∙ h.8;
-          turns = λ f e. subst (λ (y : Fixed D O). (i : ℕ) (turn : Item E) → get_elem? v.desk.turns i ≡ some turn → IsTurn M y turn) (same f e) h.12;
-          ended = λ i e there. let z = h.3 i e there in ((let a = z.0 in let b = h.1 in omega arith), z.2 ∙ ap (of_caller M.kind e.number) (sym p.2));
-          once = h.13;
-          unmade = λ n le. ap (of_caller M.kind n) p.2 ∙ r.unmade n (let b = h.1 in omega arith);
+          controls_are = ap (controls M.kind) p.2 ∙ h.controls_are;
+          turns = λ f e. subst (λ (y : Fixed D O). (i : ℕ) (turn : Item E) → get_elem? v.desk.turns i ≡ some turn → IsTurn M y turn) (same f e) h.turns;
+          ended = λ i e there. let z = h.ended i e there in ((let a = z.0 in let b = h.made in omega arith), z.2 ∙ ap (of_caller M.kind e.number) (sym p.2));
+          once = h.once;
+          unmade = λ n le. ap (of_caller M.kind n) p.2 ∙ r.unmade n (let b = h.made in omega arith);
           seen = subst (λ (l : List E). StartsWith l v.seen) (sym p.2) (r.each id v at).seen;
-          last = ap (last_notice M.kind) p.2 ∙ (last ∙ (λ i. (sym h.4 i, sym h.5 i)));
+          last = ap (last_notice M.kind) p.2 ∙ (last ∙ (λ i. (sym h.newest i, sym h.version i)));
         },
       )
 

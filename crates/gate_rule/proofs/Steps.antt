@@ -58,7 +58,7 @@ module _ {V E D O : Type 0} (M : Means V E D O) (decides : D → Decisions) (k :
       → FitsRole M (fixed_of M k) t id v role → FitsRole M (fixed_of M k) t id (changed v x y z q) role
   role_stays t id v x y z q Spent alive out h = absurd alive
   role_stays t id v x y z q (Caller n) alive out h = h
-  role_stays t id v x y z q Admin alive out h = (h.0, h.1, h.2, h.3, h.4, h.5, h.6, h.7, h.8, h.9, h.10, out refl, h.12, h.13)
+  role_stays t id v x y z q Admin alive out h = record { first = h.first; made = h.made; retired = h.retired; ended = h.ended; newest = h.newest; version = h.version; counted = h.counted; clear = h.clear; controls_are = h.controls_are; known = h.known; fixed = h.fixed; outside = out refl; turns = h.turns; once = h.once }
 
   -- a step that changes one seat's ticket, but not whether it has the turn, its rights, its trace and the keys served
   pub light : (s : State (Option V) (View E D O)) (r : Kept M decides k s) (id : ℕ) (v : View E D O) → get_elem? s.views id ≡ some v
@@ -74,6 +74,7 @@ module _ {V E D O : Type 0} (M : Means V E D O) (decides : D → Decisions) (k :
         t = r.t;
         wide = wide;
         seats = (length-set s.views id w ∙ r.seats.0, r.seats.1, r.seats.2);
+        first = subst (λ (l : List Role). get_elem? l 0 ≡ some Admin) (sym (map_kept role_of s.views id v w at refl)) r.first;
         numbers = subst (λ (l : List Role). sum_by is_caller l + r.t.gone ≡ r.t.made) (sym (map_kept role_of s.views id v w at refl)) r.numbers;
         tickets = subst (λ (l : List Ticket). Tickets l (get_or ws 3 0) (get_or ws 4 0)) (sym (map_moved ticket_of s.views id w x refl)) ts;
         passes = subst (λ (l : List Rights). Passes l r.t.newest r.t.settled r.t.forced r.t.counted ((k.seats - r.t.made) * k.quota) r.t.clear r.t.version (get_or ws 0 0) (get_or ws 1 0) (get_or ws 2 0)) (sym (map_moved rights_of s.views id w y refl)) ps;
@@ -99,13 +100,13 @@ module _ {V E D O : Type 0} (M : Means V E D O) (decides : D → Decisions) (k :
   pub names : (f : Fixed D O) (t : Truth E) (id : ℕ) (v : View E D O) (role : Role) → IsLive role → FitsRole M f t id v role → v.fixed ≡ Some f
   names f t id v Spent alive h = absurd alive
   names f t id v (Caller n) alive h = h.4
-  names f t id v Admin alive h = h.10
+  names f t id v Admin alive h = h.fixed
 
   -- the administrator has no pass
   pub no_pass : (f : Fixed D O) (t : Truth E) (id : ℕ) (v : View E D O) (role : Role) → FitsRole M f t id v role → role ≡ Admin → v.rights.pass ≡ Out
   no_pass f t id v Spent h e = h.1
   no_pass f t id v (Caller n) h e = absurd (cc)
-  no_pass f t id v Admin h e = h.11
+  no_pass f t id v Admin h e = h.outside
 
   pub same_fixed : (s : State (Option V) (View E D O)) (r : Kept M decides k s) (id : ℕ) (v : View E D O) → get_elem? s.views id ≡ some v → IsLive v.role → (f : Fixed D O) → v.fixed ≡ Some f → fixed_of M k ≡ f
   same_fixed s r id v at alive f e = let h : v.fixed ≡ Some (fixed_of M k) = names (fixed_of M k) r.t id v v.role alive (r.each id v at).role in cc

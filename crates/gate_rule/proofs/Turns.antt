@@ -55,11 +55,13 @@ module _ {V E D O : Type 0} (M : Means V E D O) (decides : D → Decisions) (k :
     pub learns : last_notice M.kind r.t.log ≡ (r.t.newest, r.t.version r.t.newest) → (id : ℕ) (v : View E D O) → get_elem? s.views id ≡ some v → (role : Role) → FitsRole M (fixed_of M k) r.t id v role → Learns M.kind v role r.t.log
     learns last id v at Spent h = tt
     learns last id v at (Caller n) h = (h.3, allowed last v.rights.pass (pass_fits M decides k s r id v at))
-    learns last id v at Admin h = (
-      last ∙ (λ i. (sym h.4 i, sym h.5 i)),
-      h.8,
-      (let b = r.passes.between in let a = r.acknowledged.0 in let c = h.4 in dite (ℕ_discrete r.t.settled r.t.newest) (λ e. inl (a ∙ (e ∙ sym c))) (λ ne. inr (omega arith))),
-    )
+    learns last id v at Admin h = record {
+      last = last ∙ (λ i. (sym h.newest i, sym h.version i));
+      controls_are = h.controls_are;
+      known = h.known;
+      settled = (let b = r.passes.between in let a = r.acknowledged.0 in let c = h.newest in dite (ℕ_discrete r.t.settled r.t.newest) (λ e. inl (a ∙ (e ∙ sym c))) (λ ne. inr (omega arith)));
+      unmade = λ n le. r.unmade n (let m = h.made in omega arith);
+    }
 
     -- the seat with the turn has seen all, the slot is out, and what the seat says of the value is true of the one that it took
     pub has_seen : (id : ℕ) (v : View E D O) (w : ℕ) → get_elem? s.views id ≡ some v → v.ticket ≡ Served w → (s.homes ≡ none ∷ []) × (v.seen ≡ r.t.log) × HasOf M (fixed_of M k) v
@@ -74,7 +76,7 @@ module _ {V E D O : Type 0} (M : Means V E D O) (decides : D → Decisions) (k :
     role_taken : (id : ℕ) (v : View E D O) (x : V) (n : ℕ) → M.history x ≡ r.t.log → (role : Role) → IsLive role → FitsRole M (fixed_of M k) r.t id v role → FitsRole M (fixed_of M k) r.t id (took M x v n) role
     role_taken id v x n hist Spent alive h = absurd alive
     role_taken id v x n hist (Caller m) alive h = h
-    role_taken id v x n hist Admin alive h = (h.0, h.1, h.2, h.3, h.4, h.5, h.6, h.7, h.8, ap (controls M.kind) hist ∙ h.8, h.10, h.11, h.12, h.13)
+    role_taken id v x n hist Admin alive h = record { first = h.first; made = h.made; retired = h.retired; ended = h.ended; newest = h.newest; version = h.version; counted = h.counted; clear = h.clear; controls_are = h.controls_are; known = ap (controls M.kind) hist ∙ h.controls_are; fixed = h.fixed; outside = h.outside; turns = h.turns; once = h.once }
 
   -- looking at the ticket served: one load of word 4
   pub poll : (slots id : ℕ) (me : Me (Option V) (View E D O)) (w : ℕ) → IsLive me.0.role → me.0.ticket ≡ Drawn w → me.1 ≡ []
@@ -120,6 +122,7 @@ module _ {V E D O : Type 0} (M : Means V E D O) (decides : D → Decisions) (k :
                   t = r.t;
                   wide = length-set s.words 4 (get_or s.words 4 0) ∙ r.wide;
                   seats = (length-set s.views id w' ∙ r.seats.0, r.seats.1, r.seats.2);
+                  first = subst (λ (l : List Role). get_elem? l 0 ≡ some Admin) (sym (map_kept role_of s.views id me.0 w' at refl)) r.first;
                   numbers = subst (λ (l : List Role). sum_by is_caller l + r.t.gone ≡ r.t.made) (sym (map_kept role_of s.views id me.0 w' at refl)) r.numbers;
                   tickets = subst (λ (ws : List ℕ). Tickets (map ticket_of (set s.views id w')) (get_or ws 3 0) (get_or ws 4 0)) (sym (word_same s.words 4))
                       (subst (λ (l : List Ticket). Tickets l (get_or s.words 3 0) (get_or s.words 4 0)) (sym (map_moved ticket_of s.views id w' (Served w) (ap Served same)))

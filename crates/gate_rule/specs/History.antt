@@ -1,9 +1,10 @@
 -- What the gate reads in a history: callers' entries, notices and acknowledgements.
-use Rattle.std.specs.Prelude.{◌≡◌, ℕ, ◌+◌, ◌<◌, ◌==◌, Bool, true, false, cond, max, List, [], ◌∷◌, ◌++◌}
+use Rattle.std.specs.Prelude.{◌≡◌, ℕ, ◌+◌, ◌<◌, ◌≤◌, ◌==◌, Bool, true, false, cond, List, [], ◌∷◌, ◌++◌, Option, Some, None}
 use Rattle.std.specs.List.{fold, filter}
 use Rattle.access_vectors.specs.declared.phase.Phase.{Phase}
 use Rattle.access_vectors.specs.declared.phase.Phase.TheVariants.{Settled}
 use Rattle.access_vectors.specs.Phases as phases
+use Rattle.access_vectors.specs.Forced as by
 
 -- the three kinds of entry: a call by a caller with its mark under a policy number; the notice of a number and its version; the acknowledgement of a number, and whether it is forced
 pub data Kind : Type 0 where
@@ -23,6 +24,12 @@ is_control (Call caller mark number) = false
 is_control (Notice number version) = true
 is_control (Ack number forced) = true
 
+-- a forced acknowledgement
+abbrev pub is_forced : Kind → Bool
+is_forced (Call caller mark number) = false
+is_forced (Notice number version) = false
+is_forced (Ack number forced) = forced
+
 -- the last noticed number and version after one more entry
 abbrev pub noticed : ℕ × ℕ → Kind → ℕ × ℕ
 noticed p (Call caller mark number) = p
@@ -35,12 +42,16 @@ settled a (Call caller mark number) = a
 settled a (Notice number version) = a
 settled a (Ack number forced) = number
 
+-- the number of a forced acknowledgement
+abbrev pub forced_of : Kind → Option ℕ
+forced_of (Call caller mark number) = None
+forced_of (Notice number version) = None
+forced_of (Ack number true) = Some number
+forced_of (Ack number false) = None
+
 -- the greatest forced number after one more entry
 abbrev pub forced_to : ℕ → Kind → ℕ
-forced_to a (Call caller mark number) = a
-forced_to a (Notice number version) = a
-forced_to a (Ack number true) = max a number
-forced_to a (Ack number false) = a
+forced_to a kind = by.forced_to a (forced_of kind)
 
 -- the version of the number m after one more entry
 abbrev pub dated : ℕ → ℕ → Kind → ℕ
@@ -79,7 +90,7 @@ module _ {E : Type 0} (kind : E → Kind) where
 
   -- the greatest number of a forced acknowledgement, or 0
   abbrev pub forced_in : List E → ℕ
-  forced_in log = fold (λ a e. forced_to a (kind e)) 0 log
+  forced_in log = by.forced_in (λ e. forced_of (kind e)) log
 
   -- the version of the number m, that of its notice, or 0
   abbrev pub version_of : ℕ → List E → ℕ
@@ -88,6 +99,12 @@ module _ {E : Type 0} (kind : E → Kind) where
   -- where the policy change stands after a history
   abbrev pub phase_in : List E → Phase
   phase_in log = fold (λ phase e. phase_after phase (kind e)) (Settled 0 0) log
+
+  -- the greatest forced number is at most the settled one, which is at most the last noticed one; where no entry is forced, the greatest forced number is 0
+  pub record IsOrdered (log : List E) : Type 0 where
+    pub forced : forced_in log ≤ settled_in log
+    pub settled : settled_in log ≤ (last_notice log).0
+    pub unforced : filter (λ e. is_forced (kind e)) log ≡ [] → forced_in log ≡ 0
 
   -- each entry may come where it stands
   abbrev pub Alternates : ℕ → ℕ → ℕ → List E → Type 0

@@ -82,16 +82,28 @@ module _ {V E D O : Type 0} (M : Means V E D O) where
   abbrev pub FitsEnded : Truth E → Ended E → Type 0
   FitsEnded t e = (e.number < t.made) × (t.live e.number ≡ false) × (e.entries ≡ of_caller M.kind e.number t.log)
 
-  -- what a seat knows by what it is: a caller has a number of its own and knows its own entries; the administrator is the first seat, and knows the numbers, the retired callers' entries, each number once, every notice and acknowledgement, and what it found and left in each turn
+  -- what the administrator knows: it is the first seat, and knows how many numbers were made and retired, the retired callers' entries, each number once, the current number with its version, the passes counted and cleared, every notice and acknowledgement, and what it found and left in each turn; it has no pass
+  pub record FitsAdmin (f : Fixed D O) (t : Truth E) (seat : ℕ) (v : View E D O) : Type 0 where
+    pub first : seat ≡ 0
+    pub made : v.desk.made ≡ t.made
+    pub retired : length v.desk.ended ≡ t.gone
+    pub ended : (k : ℕ) (e : Ended E) → get_elem? v.desk.ended k ≡ some e → FitsEnded t e
+    pub newest : v.desk.newest ≡ t.newest
+    pub version : v.desk.version ≡ t.version t.newest
+    pub counted : v.desk.counted ≡ t.counted
+    pub clear : v.desk.clear ≡ t.clear
+    pub controls_are : controls M.kind t.log ≡ entries_of v.desk.turns
+    pub known : controls M.kind v.seen ≡ entries_of v.desk.turns
+    pub fixed : v.fixed ≡ Some f
+    pub outside : v.rights.pass ≡ Out
+    pub turns : (i : ℕ) (turn : Item E) → get_elem? v.desk.turns i ≡ some turn → IsTurn f turn
+    pub once : AreOnce v.desk.ended
+
+  -- what a seat knows by what it is: a caller has a number of its own and knows its own entries; the administrator knows what was said above
   abbrev pub FitsRole : Fixed D O → Truth E → ℕ → View E D O → Role → Type 0
   FitsRole f t seat v Spent = (has_turn v.ticket ≡ false) × (v.rights.pass ≡ Out)
   FitsRole f t seat v (Caller n) = (n < t.made) × (t.holder n ≡ seat) × (t.live n ≡ true) × (v.mine ≡ of_caller M.kind n t.log) × (v.fixed ≡ Some f)
-  FitsRole f t seat v Admin =
-      (seat ≡ 0) × (v.desk.made ≡ t.made) × (length v.desk.ended ≡ t.gone)
-      × ((k : ℕ) (e : Ended E) → get_elem? v.desk.ended k ≡ some e → FitsEnded t e)
-      × (v.desk.newest ≡ t.newest) × (v.desk.version ≡ t.version t.newest) × (v.desk.counted ≡ t.counted) × (v.desk.clear ≡ t.clear)
-      × (controls M.kind t.log ≡ entries_of v.desk.turns) × (controls M.kind v.seen ≡ entries_of v.desk.turns) × (v.fixed ≡ Some f) × (v.rights.pass ≡ Out)
-      × ((i : ℕ) (turn : Item E) → get_elem? v.desk.turns i ≡ some turn → IsTurn f turn) × AreOnce v.desk.ended
+  FitsRole f t seat v Admin = FitsAdmin f t seat v
 
   -- what a seat has seen is how the history begins, meets the promise, and notices no number beyond the newest
   pub record Fits (f : Fixed D O) (t : Truth E) (seat : ℕ) (v : View E D O) : Type 0 where
@@ -124,12 +136,13 @@ pub record Dated (versions most : ℕ) (said : ℕ → ℕ) (newest : ℕ) (vers
 
 module _ {V E D O : Type 0} (M : Means V E D O) (decides : D → Decisions) where
   -- the whole rule: there is a truth with which words, slot and views agree.
-  -- `passes` has the entry budget, the passes counted, the pass numbers and the clearance; `rows` the cached rows; `tickets` and `place` the turn;
+  -- `first` says that the first view is the administrator's; `passes` has the entry budget, the passes counted, the pass numbers and the clearance; `rows` the cached rows; `tickets` and `place` the turn;
   -- `noticed`, `dated`, `promised` and `place` the value at rest; `each`, `begins`, `promised` and `unmade` the histories seen; `acknowledged` ties the settled and the forced number to the history
   pub record Kept (k : Terms V D) (s : State (Option V) (View E D O)) : Type 0 where
     pub t : Truth E
     pub wide : length s.words ≡ 517
     pub seats : (length s.views ≡ t.made + 1) × (t.made ≤ k.seats) × (k.seats ≤ 64)
+    pub first : get_elem? (map role_of s.views) 0 ≡ some Admin
     pub numbers : sum_by is_caller (map role_of s.views) + t.gone ≡ t.made
     pub tickets : Tickets (map ticket_of s.views) (slice_index s.words 3) (slice_index s.words 4)
     pub passes : Passes (map rights_of s.views) t.newest t.settled t.forced t.counted ((k.seats - t.made) * k.quota) t.clear t.version (slice_index s.words 0) (slice_index s.words 1) (slice_index s.words 2)

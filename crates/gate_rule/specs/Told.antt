@@ -10,12 +10,14 @@ use Rattle.gate_rule.specs.declared.view.Role.TheVariants.{Spent, Caller, Admin}
 use Rattle.gate_rule.specs.declared.view.Pass.{Pass}
 use Rattle.gate_rule.specs.declared.view.Pass.TheVariants.{Out, Inside}
 use Rattle.gate_rule.specs.declared.view.Key.{Key}
+use Rattle.gate_rule.specs.declared.view.Desk.{Desk}
 use Rattle.gate_rule.specs.declared.view.Ended.{Ended}
 use Rattle.gate_rule.specs.declared.view.Item.{Item}
 use Rattle.gate_rule.specs.declared.view.Fixed.{Fixed}
 use Rattle.gate_rule.specs.declared.view.View.{View}
 use Rattle.gate_rule.specs.declared.journal.Terms.{Terms}
-use Rattle.gate_rule.specs.History.{Kind, of_caller, controls, last_notice, settled_in, forced_in, version_of, StartsWith}
+use Rattle.access_vectors.specs.Phases.{MayName, version_at}
+use Rattle.gate_rule.specs.History.{Kind, of_caller, controls, last_notice, settled_in, forced_in, version_of, phase_in, StartsWith}
 use Rattle.gate_rule.specs.History.Kind.{Call, Notice, Ack}
 use Rattle.gate_rule.specs.Meaning.{Means}
 use Rattle.gate_rule.specs.Tickets.{word_of}
@@ -33,14 +35,25 @@ module _ {E : Type 0} (kind : E → Kind) where
   IsAllowed Out log = Unit {0}
   IsAllowed (Inside n v) log = ((n ≡ settled_in kind log) ⊎ ((n ≡ (last_notice kind log).0) ⊎ (n < forced_in kind log))) × (v ≡ version_of kind n log)
 
+  -- the pass may be named at this place of the history: unless its number is below the settled one, the phase there allows the number, and the version is that number's there
+  abbrev pub IsNamed : Pass → List E → Type 0
+  IsNamed Out log = Unit {0}
+  IsNamed (Inside n v) log = settled_in kind log ≤ n → MayName (phase_in kind log) n × (v ≡ version_at (phase_in kind log) n)
+
+  -- what the administrator learns of the history that it takes: the last notice is that of its current number, which is settled or pending; its turns' entries are all notices and acknowledgements, and so they were of what it had seen; and a number that was never made has no entry
+  pub record LearnsAdmin (desk : Desk E) (seen log : List E) : Type 0 where
+    pub last : last_notice kind log ≡ (desk.newest, desk.version)
+    pub settled : (settled_in kind log ≡ desk.newest) ⊎ (desk.newest ≡ settled_in kind log + 1)
+    pub controls_are : controls kind log ≡ entries_of desk.turns
+    pub known : controls kind seen ≡ entries_of desk.turns
+    pub unmade : (n : ℕ) → desk.made ≤ n → of_caller kind n log ≡ []
+
 module _ {E D O : Type 0} (kind : E → Kind) where
-  -- what a seat learns of the history that it takes: a caller, that its own entries are all of its number, and that its pass is allowed; the administrator, that its turns' entries are all notices and acknowledgements, and that the last notice is its own
+  -- what a seat learns of the history that it takes: a caller, that its own entries are all of its number, and that its pass is allowed; the administrator, what was said above
   abbrev pub Learns : View E D O → Role → List E → Type 0
   Learns v Spent log = Unit {0}
   Learns v (Caller n) log = (v.mine ≡ of_caller kind n log) × IsAllowed kind v.rights.pass log
-  Learns v Admin log =
-      (last_notice kind log ≡ (v.desk.newest, v.desk.version)) × (controls kind log ≡ entries_of v.desk.turns)
-      × ((settled_in kind log ≡ v.desk.newest) ⊎ (v.desk.newest ≡ settled_in kind log + 1))
+  Learns v Admin log = LearnsAdmin kind v.desk v.seen log
 
   -- an entry that a seat may add: a caller, a call under its number and its pass's number; the administrator, the notice of the current number, or its acknowledgement, which unless forced needs that nothing older is left
   abbrev pub IsOwn : View E D O → Role → E → Type 0
@@ -48,9 +61,13 @@ module _ {E D O : Type 0} (kind : E → Kind) where
   IsOwn v (Caller n) e = (mark : ℕ) × (number : ℕ) × (version : ℕ) × (v.rights.pass ≡ Inside number version) × (kind e ≡ Call n mark number)
   IsOwn v Admin e = (kind e ≡ Notice v.desk.newest v.desk.version) ⊎ ((kind e ≡ Ack v.desk.newest true) ⊎ ((kind e ≡ Ack v.desk.newest false) × (v.desk.clear ≡ v.desk.newest)))
 
-  -- the history is the one seen with at most one entry more, an own one; the administrator leaves the last notice at its current number
+  -- the history is the one seen with at most one entry more, which a seat of this role may add
+  abbrev pub Grows : View E D O → Role → List E → Type 0
+  Grows v role log = (log ≡ v.seen) ⊎ ((e : E) × (log ≡ v.seen ++ e ∷ []) × IsOwn v role e)
+
+  -- the history grew so, and the administrator leaves the last notice at its current number
   abbrev pub Extends : View E D O → List E → Type 0
-  Extends v log = ((log ≡ v.seen) ⊎ ((e : E) × (log ≡ v.seen ++ e ∷ []) × IsOwn v v.role e)) × (v.role ≡ Admin → last_notice kind log ≡ (v.desk.newest, v.desk.version))
+  Extends v log = Grows v v.role log × (v.role ≡ Admin → last_notice kind log ≡ (v.desk.newest, v.desk.version))
 
 module _ {V E D O : Type 0} (M : Means V E D O) where
   -- what a seat learns with the turn

@@ -1,14 +1,15 @@
 //! The gate at work: limits, passes, the cache over three numbers, an insert that comes late, and two threads.
 ghost use Rattle.std.specs.Prelude.{◌≡◌, IsTrue};
 ghost use Rattle.epoch_gate.specs.Seats.{IsOfGate};
-ghost use Rattle.epoch_gate.specs.Known.{decider_of, greatest_number, IsIdle, seats_made, seats_retired};
+ghost use Rattle.epoch_gate.specs.Known.{decider_of, IsIdle, HasPass, seats_made, seats_retired};
 ghost use Rattle.gate_ledger.specs.Seated.{IsFree};
 
-use access_vectors::{Class, Decider, Vector};
-use avc_rows::{Origin, check};
+use access_vectors::{Asker, Class, Decider, Vector};
+use avc_rows::{Cached, Checked, Origin, check};
 use epoch_gate::{Admin, Gate, GateFault, Seat, SeatFault, Spent};
 use flask_sid::{Memory, Sid};
 use gate_ledger::{Acknowledged, Ledger, Line, NotifyFault, acknowledge, call, notify};
+use gate_rule::Journal;
 use std::alloc::{AllocError, Global};
 use std::sync::Wait;
 use std::sync::atomic::{AtomicU64, Ordering};
@@ -70,11 +71,11 @@ type Office = Admin<Ledger<Counting>, Counting>;
 // A notice and an acknowledgement, of which the tests know only that the administrator is free again: what they answer
 // is compared when a test runs.
 fn noticed(rt: &impl Wait, gate: &Hall<'_>, admin: &mut Office, ver: u8) -> Result<u32, NotifyFault>
-    requires { IsOfGate gate.now admin.old × IsIdle admin.old × (greatest_number gate.now ≡ 9) }
+    requires { IsOfGate gate.now admin.old × IsIdle admin.old }
     ensures free { IsOfGate gate.now admin.new × IsIdle admin.new }
     ensures seats { (seats_made admin.new ≡ seats_made admin.old) × (seats_retired admin.new ≡ seats_retired admin.old) }
 {
-    notify(rt, gate, admin, ver, 9)
+    notify(rt, gate, admin, ver)
 }
 
 fn answered(rt: &impl Wait, gate: &Hall<'_>, admin: &mut Office) -> Result<Acknowledged, Memory>
@@ -161,6 +162,14 @@ fn sids() -> Option<(Sid, Sid)> {
     Some((Sid::of(1)?, Sid::of(2)?))
 }
 
+// A check of a key, of which the tests know only that the seat keeps its pass: what it answers is compared when a test runs.
+fn checked(gate: &Hall<'_>, seat: &mut Chair, s: Sid, t: Sid) -> Checked
+    requires { IsOfGate gate.now seat.old × HasPass seat.old × IsIdle seat.old }
+    ensures { IsOfGate gate.now seat.new × HasPass seat.new × IsIdle seat.new }
+{
+    check(gate, seat, s, t, Class::File)
+}
+
 #[test]
 fn cache_over_three_numbers(rt: HostRuntime) -> Result<(), Fail> {
     let alloc = rt.alloc();
@@ -172,19 +181,19 @@ fn cache_over_three_numbers(rt: HostRuntime) -> Result<(), Fail> {
     let mut seat = gate.seat(&mut admin)?;
 
     gate.enter(&mut seat)?;
-    let asked = check(&gate, &mut seat, s, t, Class::File);
+    let asked = checked(&gate, &mut seat, s, t);
     assert_eq!(rt;
         (asked.vector, asked.origin),
         (Vector::of(0), Origin::Asked)
     );
-    let hit = check(&gate, &mut seat, s, t, Class::File);
+    let hit = checked(&gate, &mut seat, s, t);
     assert_eq!(rt; (hit.vector, hit.origin), (Vector::of(0), Origin::Hit));
     gate.leave(&mut seat);
 
     assert_eq!(rt; noticed(&rt, &gate, &mut admin, 1), Ok(1));
     assert_eq!(rt; answered(&rt, &gate, &mut admin), Ok(Acknowledged::Done(1)));
     gate.enter(&mut seat)?;
-    let changed = check(&gate, &mut seat, s, t, Class::File);
+    let changed = checked(&gate, &mut seat, s, t);
     assert_eq!(rt;
         (changed.vector, changed.origin),
         (Vector::of(1), Origin::Asked)
@@ -194,10 +203,53 @@ fn cache_over_three_numbers(rt: HostRuntime) -> Result<(), Fail> {
     assert_eq!(rt; noticed(&rt, &gate, &mut admin, 0), Ok(2));
     assert_eq!(rt; answered(&rt, &gate, &mut admin), Ok(Acknowledged::Done(2)));
     gate.enter(&mut seat)?;
-    let back = check(&gate, &mut seat, s, t, Class::File);
+    let back = checked(&gate, &mut seat, s, t);
     assert_eq!(rt; (back.vector, back.origin), (Vector::of(0), Origin::Asked));
     gate.leave(&mut seat);
     assert_eq!(rt; decider.asked.load(Ordering::SeqCst), 3);
+    Ok(())
+}
+
+// The seat asks twice by an asker of the cache, which then hands it back.
+fn asked_twice<V: Journal<D>, D: Decider>(
+    gate: &Gate<'_, V, D>,
+    seat: &mut Seat<V, D>,
+    s: Sid,
+    t: Sid,
+) -> (Vector, u64)
+    requires seat { IsOfGate gate.now seat.old × HasPass seat.old }
+    requires known { IsTrue ((D.decides (decider_of gate.now)).known s) × IsTrue ((D.decides (decider_of gate.now)).known t) }
+    ensures { IsOfGate gate.now seat.new × HasPass seat.new }
+{
+    let mut asker = Cached::new(gate, seat);
+    let _first = asker.vector(s, t, Class::File);
+    let second = asker.vector(s, t, Class::File);
+    let Cached {
+        gate: _,
+        seat: _,
+        number: _,
+        plainly,
+    } = asker;
+    (second, plainly.count)
+}
+
+#[test]
+fn asker_hands_its_seat_back(rt: HostRuntime) -> Result<(), Fail> {
+    let alloc = rt.alloc();
+    let decider = Counting {
+        asked: AtomicU64::new(0),
+    };
+    let (s, t) = sids().ok_or("identifiers")?;
+    let (gate, mut admin) = Gate::new(alloc, Ledger::new(alloc, &decider), &decider, 1, 9, 9)?;
+    let mut seat = gate.seat(&mut admin)?;
+    gate.enter(&mut seat)?;
+    assert_eq!(rt; asked_twice(&gate, &mut seat, s, t), (Vector::of(0), 2));
+    assert_eq!(rt;
+        check(&gate, &mut seat, s, t, Class::File).origin,
+        Origin::Hit
+    );
+    gate.leave(&mut seat);
+    assert_eq!(rt; decider.asked.load(Ordering::SeqCst), 1);
     Ok(())
 }
 
@@ -212,7 +264,7 @@ fn fill_late(
     t: Sid,
 ) -> Option<(Vector, Origin)>
     requires seats { IsFree gate.now old.old × IsFree gate.now new.old }
-    requires admin { IsOfGate gate.now admin.old × IsIdle admin.old × (greatest_number gate.now ≡ 9) }
+    requires admin { IsOfGate gate.now admin.old × IsIdle admin.old }
     requires known { IsTrue ((⟦<Counting as Decider>⟧.decides (decider_of gate.now)).known s) × IsTrue ((⟦<Counting as Decider>⟧.decides (decider_of gate.now)).known t) }
 {
     gate.enter(old).ok()?;

@@ -58,6 +58,7 @@ ann port stat 80
   admin notify 0
 admin update 007
 admin ack
+admin   force
 ";
 
 const PRINTED: &str = "policy 1
@@ -112,6 +113,7 @@ ann port stat 80
 admin notify 0
 admin update 7
 admin ack
+admin force
 ";
 
 #[test]

@@ -17,7 +17,7 @@ use Rattle.access_vectors.specs.declared.change.NotifyFault.{NotifyFault}
 use Rattle.manager_history.specs.declared.entry.Entry.{Entry}
 use Rattle.manager_history.specs.declared.entry.Entry.TheVariants as entry
 use Rattle.managed.specs.Posts.{Post, Stood, IsSameManager, IsSameUntried, post_of, stale_on, older_on, notified, updated, settled_if, shown_after, tries_after, added_by}
-use Rattle.managed.specs.Seen.{Seen, IsOperation, IsGrown, IsNotified, IsUpdated, IsAcknowledged, IsTriedWhere, IsSame, event_of, acknowledging, settled_follows}
+use Rattle.managed.specs.Seen.{Seen, IsOperation, IsGrown, IsNotified, IsUpdated, IsAcknowledged, IsTriedWhere, ShowsOlder, IsSame, event_of, acknowledging, answer_of, settled_follows}
 use Rattle.managed.specs.Administered.{seen_of}
 use Rattle.managed.specs.declared.managed.Shown.{Shown}
 
@@ -36,35 +36,48 @@ stayed : {Call Reply : Type 0} (alone : Bool) (old new : List (Entry Call Reply)
     → IsGrown alone (map event_of old) (map event_of new) []
 stayed alone old new is = grown alone old new [] (is ∙ sym (append-nil old))
 
+-- how many older passes it waits for
+abbrev waited : Bool → ℕ → ℕ
+waited forced older = if forced then 0 else older
+
 -- what an acknowledgement shows is what it answers by
-answered : (phase : Phase) (manager older found : ℕ) (before now : Shown) → now ≡ shown_after phase before older found
-    → ack_answer phase manager older found ≡ ack_answer phase manager now.older now.found
-answered (Settled number version) manager older found before now is = refl
-answered (Pending number first second) manager older found before now is =
+answered : (forced : Bool) (phase : Phase) (manager older found : ℕ) (before now : Shown) → now ≡ shown_after phase before (waited forced older) found
+    → ack_answer phase manager (waited forced older) found ≡ answer_of forced phase manager now
+answered false (Settled number version) manager older found before now is = refl
+answered false (Pending number first second) manager older found before now is =
     ap (λ s. ack_answer (Pending number first second) manager s.older s.found) (sym is)
+answered true (Settled number version) manager older found before now is = refl
+answered true (Pending number first second) manager older found before now is =
+    ap (λ s. ack_answer (Pending number first second) manager 0 s.found) (sym is)
+
+-- the older passes that it shows
+older_as : (forced : Bool) (older shown : ℕ) (told : Option ℕ) → told ≡ Some older → shown ≡ waited forced older → ShowsOlder forced told shown
+older_as false older shown told is shows = rw is shows
+older_as true older shown told is shows = shows
 
 -- while a change is pending it is a try
-tried_where : (phase : Phase) (old new : Seen) (done : Bool) (older : ℕ) (stale : List ℕ)
+tried_where : (forced : Bool) (phase : Phase) (old new : Seen) (done : Bool) (older : ℕ) (stale : List ℕ)
     → old.phase ≡ phase → old.older ≡ Some older → old.stale ≡ Some stale → old.items ≡ None → new.items ≡ None
-    → new.shown ≡ shown_after phase old.shown older (length stale)
+    → new.shown ≡ shown_after phase old.shown (waited forced older) (length stale)
     → new.tries ≡ tries_after phase old.tries
-    → IsTriedWhere (is_pending phase) old new done
-tried_where (Settled number version) old new done older stale phase_is older_is stale_is items_old items_new shown tries = record {
-  untried = record { tries = tries; shown = shown };
+    → IsTriedWhere (is_pending phase) forced old new done
+tried_where forced (Settled number version) old new done older stale phase_is older_is stale_is items_old items_new shown tries = record {
+  untried = record { rises = omega (arith, tries); tries = λ _. tries; shown = λ _. shown };
   items = rw items_old items_new;
 }
-tried_where (Pending number first second) old new done older stale phase_is older_is stale_is items_old items_new shown tries = record {
+tried_where forced (Pending number first second) old new done older stale phase_is older_is stale_is items_old items_new shown tries = record {
   tries = tries;
-  older_shown = rw older_is (ap (λ s. s.older) shown);
+  older_shown = older_as forced older new.shown.older old.older older_is (ap (λ s. s.older) shown);
   found_shown = rw stale_is (ap (λ s. s.found) shown);
   left_shown = ap (λ s. s.left) shown ∙ sym (ap (λ s. s.found) shown);
   items = rw items_old items_new;
 }
 
 -- the entries that it adds, as events
-added_events : (Call Reply : Type 0) (phase : Phase) (done : Bool) → map event_of (added_by {Call = Call} {Reply = Reply} phase done) ≡ acknowledging phase done
-added_events Call Reply phase false = refl
-added_events Call Reply phase true = refl
+added_events : (Call Reply : Type 0) (forced : Bool) (phase : Phase) (done : Bool) → map event_of (added_by {Call = Call} {Reply = Reply} forced phase done) ≡ acknowledging forced phase done
+added_events Call Reply forced phase false = refl
+added_events Call Reply true phase true = refl
+added_events Call Reply false phase true = refl
 
 settled_phase : {State : Type 0} (p : Post State) (done : Bool) → (settled_if p done).phase ≡ (if done then acknowledged p.phase else p.phase)
 settled_phase p false = refl
@@ -102,7 +115,7 @@ module _ {Core Decider Call Reply State : Type 0} (decides : Decider → Decisio
       → IsNotified version (seen old) (seen new) said
   noticed_seen old new (Err fault) version stays refused allowed number made added as_before = record {
     same = same_seen old new (manager stays);
-    untried = record { tries = stays.tries; shown = stays.shown };
+    untried = record { rises = let same = stays.tries in omega (arith, same); tries = λ _. stays.tries; shown = λ _. stays.shown };
     answer = record {
       refused = refused;
       phase = ap (λ s. s.keeper.phase) as_before;
@@ -115,7 +128,7 @@ module _ {Core Decider Call Reply State : Type 0} (decides : Decider → Decisio
   }
   noticed_seen old new (Ok number) version stays refused allowed number_is made added as_before = record {
     same = same_seen old new (manager stays);
-    untried = record { tries = stays.tries; shown = stays.shown };
+    untried = record { rises = let same = stays.tries in omega (arith, same); tries = λ _. stays.tries; shown = λ _. stays.shown };
     answer = record {
       allowed = allowed;
       number_is = number_is;
@@ -155,19 +168,19 @@ module _ {Core Decider Call Reply State : Type 0} (decides : Decider → Decisio
         stale = ap (λ d. Some (stale_on (decides d) class pair_of (post new))) stays.decider ∙ ap Some remaining ∙ ap (λ s. Some (drop most s)) stale_is;
       }
 
-  pub acknowledged_seen : (old new : Stood Core Decider Call Reply) (said : Ack) → Stays old new
-      → said ≡ ack_answer old.keeper.phase old.keeper.manager (older_on (post old)) (length (stale_on (decides old.keeper.decider) class pair_of (post old)))
+  pub acknowledged_seen : (forced : Bool) (old new : Stood Core Decider Call Reply) (said : Ack) → Stays old new
+      → said ≡ ack_answer old.keeper.phase old.keeper.manager (waited forced (older_on (post old))) (length (stale_on (decides old.keeper.decider) class pair_of (post old)))
       → post new ≡ settled_if (post old) (is_done said)
-      → new.shown ≡ shown_after old.keeper.phase old.shown (older_on (post old)) (length (stale_on (decides old.keeper.decider) class pair_of (post old)))
+      → new.shown ≡ shown_after old.keeper.phase old.shown (waited forced (older_on (post old))) (length (stale_on (decides old.keeper.decider) class pair_of (post old)))
       → new.tries ≡ tries_after old.keeper.phase old.tries
-      → new.keeper.history ≡ old.keeper.history ++ added_by old.keeper.phase (is_done said)
-      → IsAcknowledged (seen old) (seen new) said
-  acknowledged_seen old new said stays answer post_is shown tries history_is = record {
+      → new.keeper.history ≡ old.keeper.history ++ added_by forced old.keeper.phase (is_done said)
+      → IsAcknowledged forced (seen old) (seen new) said
+  acknowledged_seen forced old new said stays answer post_is shown tries history_is = record {
     same = same_seen old new stays;
-    answer = answer ∙ answered old.keeper.phase old.keeper.manager _ _ old.shown new.shown shown;
-    tried = tried_where old.keeper.phase (seen old) (seen new) (is_done said) _ _ refl refl refl refl refl shown tries;
+    answer = answer ∙ answered forced old.keeper.phase old.keeper.manager _ _ old.shown new.shown shown;
+    tried = tried_where forced old.keeper.phase (seen old) (seen new) (is_done said) _ _ refl refl refl refl refl shown tries;
     phase = ap (λ p. p.phase) post_is ∙ settled_phase (post old) (is_done said);
-    history = rw (← added_events Call Reply old.keeper.phase (is_done said)) (grown true old.keeper.history new.keeper.history _ history_is);
+    history = rw (← added_events Call Reply forced old.keeper.phase (is_done said)) (grown true old.keeper.history new.keeper.history _ history_is);
     older = refl;
     follows = ap (λ p. Some p.follows) post_is ∙ settled_slots (post old) (is_done said);
     stale = refl;

@@ -1,19 +1,24 @@
 -- How a manager on one thread stands: plain state, slots, change of policy and held passes.
-use Rattle.std.specs.Prelude.{◌≡◌, ℕ, ◌+◌, ◌-◌, Bool, true, false, List, [], ◌∷◌, length, take, replicate, slice_get, slice_set, Option, Some, None, unwrap_or}
+use Rattle.std.specs.Prelude.{◌≡◌, ℕ, ◌+◌, ◌-◌, Bool, true, false, List, [], ◌∷◌, length, take, replicate, slice_get, slice_set, Option, Some, None, unwrap_or, if◌then◌else◌}
 use Rattle.std.specs.FinMap as maps
 use Rattle.access_vectors.specs.Decisions.{Decisions}
 use Rattle.access_vectors.specs.Asking.{counted}
-use Rattle.access_vectors.specs.Phases.{number_of, version_at, noticed, acknowledged, MayName}
+use Rattle.access_vectors.specs.Phases.{number_of, settled_number, version_at, noticed, acknowledged}
+use Rattle.access_vectors.specs.Forced.{is_aborted, MayCall}
 use Rattle.access_vectors.specs.Stale.{Follows, Pair, stale_slots, now_following, all_following}
 use Rattle.access_vectors.specs.declared.asked.Asked.{Asked}
 use Rattle.access_vectors.specs.declared.class.Class.{Class}
 use Rattle.access_vectors.specs.declared.phase.Phase.{Phase}
 use Rattle.access_vectors.specs.declared.phase.Phase.TheVariants.{Settled, Pending}
 use Rattle.manager_history.specs.Answers.{Answer, Manager}
+use Rattle.manager_history.specs.Histories.{said_at, entry_at, acknowledgement}
 use Rattle.manager_history.specs.Kept.{Kept}
-use Rattle.manager_history.specs.Passing.{pass_of, older_count}
+use Rattle.manager_history.specs.Passing.{pass_of, count_at}
+use Rattle.manager_history.specs.declared.answers.Ack.{Ack}
+use Rattle.manager_history.specs.declared.answers.Ack.TheVariants as acks
+use Rattle.manager_history.specs.declared.answers.Answer as said
 use Rattle.manager_history.specs.declared.entry.Entry.{Entry}
-use Rattle.manager_history.specs.declared.entry.Entry.TheVariants.{Op, Notice, Ack}
+use Rattle.manager_history.specs.declared.entry.Entry.TheVariants as entry
 use Rattle.managed.specs.declared.managed.Shown.{Shown}
 
 -- where a manager stands: the plain manager's state, the policy number that each used slot follows, where its change of
@@ -39,25 +44,45 @@ acting_version post client = version_at post.phase (acting_number post client)
 abbrev pub answer_on : {Call Reply State : Type 0} → Manager Call Reply State → Decisions → Post State → ℕ → Call → Answer Reply State
 answer_on plain d post client call = plain d post.state client call (acting_number post client) (acting_version post client)
 
+-- what a client's call is answered: where its number is below the settled one that it was aborted, and else the plain
+-- manager's reply
+abbrev pub said_on : {Call Reply State : Type 0} → Manager Call Reply State → Decisions → Post State → ℕ → Call → said.Answer Reply
+said_on plain d post client call = said_at plain d post.state post.phase client call (acting_number post client)
+
+-- what a client's call asks: an aborted one nothing
+abbrev pub asked_on : {Call Reply State : Type 0} → Manager Call Reply State → Decisions → Post State → ℕ → Call → List Asked
+asked_on plain d post client call = if is_aborted post.phase (acting_number post client) then [] else (answer_on plain d post client call).asked
+
+-- the entry that a client's call adds to the history
+abbrev pub entry_on : {Call Reply State : Type 0} → Manager Call Reply State → Decisions → Post State → ℕ → ℕ → Call → Entry Call Reply
+entry_on plain d post client mark call = entry_at plain d post.state post.phase client mark call (acting_number post client)
+
 -- what slots follow after a call, by the state, the call, its policy number and version, and its reply
 abbrev pub Following : Type 0 → Type 0 → Type 0 → Type 0
 Following Call Reply State = Decisions → State → ℕ → Call → ℕ → ℕ → Reply → Follows → Follows
 
--- after a client's call, and its answer
-abbrev pub called : {Call Reply State : Type 0} → Following Call Reply State → Decisions → Post State → ℕ → Call → Answer Reply State → Post State
-called followed d post client call answer = record {
+-- after a client's operation, and the plain manager's answer
+abbrev pub operated : {Call Reply State : Type 0} → Following Call Reply State → Decisions → Post State → ℕ → Call → Answer Reply State → Post State
+operated followed d post client call answer = record {
   state = answer.state;
   follows = followed d post.state client call (acting_number post client) (acting_version post client) answer.reply post.follows;
   phase = post.phase;
   held = post.held;
 }
 
--- what a call asked; other entries ask nothing
+-- after a client's call, and the plain manager's answer: one that is aborted changes nothing
+abbrev pub called : {Call Reply State : Type 0} → Following Call Reply State → Decisions → Post State → ℕ → Call → Answer Reply State → Post State
+called followed d post client call answer =
+    if is_aborted post.phase (acting_number post client) then post else operated followed d post client call answer
+
+-- what an operation asked; other entries ask nothing
 abbrev pub asked_in : {Call Reply : Type 0} → Option (Entry Call Reply) → List Asked
 asked_in None = []
-asked_in (Some (Op caller mark call number asked reply)) = asked
-asked_in (Some (Notice number version)) = []
-asked_in (Some (Ack number)) = []
+asked_in (Some (entry.Op caller mark call number asked reply)) = asked
+asked_in (Some (entry.Aborted caller mark call number)) = []
+asked_in (Some (entry.Notice number version)) = []
+asked_in (Some (entry.Ack number)) = []
+asked_in (Some (entry.Forced number)) = []
 
 -- what the newest entry of a history asked
 unfoldable pub last_asked : {Call Reply : Type 0} → List (Entry Call Reply) → List Asked
@@ -98,9 +123,9 @@ abbrev pub updated : {State : Type 0} → Post State → List ℕ → ℕ → Po
 updated post stale most =
     record { state = post.state; follows = now_following (take most stale) (number_of post.phase) post.follows; phase = post.phase; held = post.held }
 
--- how many passes below the newest number are held
+-- how many passes of just the settled number are held, for which an acknowledgement that is not forced waits
 abbrev pub older_on : {State : Type 0} → Post State → ℕ
-older_on post = older_count (number_of post.phase) post.held
+older_on post = count_at (settled_number post.phase) post.held
 
 -- after an acknowledgement: where it is done, every used slot follows the number
 abbrev pub settled_if : {State : Type 0} → Post State → Bool → Post State
@@ -108,8 +133,15 @@ settled_if post false = post
 settled_if post true =
     record { state = post.state; follows = all_following (number_of post.phase) post.follows; phase = acknowledged post.phase; held = post.held }
 
--- what a try showed, how many tries there were, and what it added to the history, after an acknowledgement: it is a try only
--- while a change is pending
+-- how many stale slots an acknowledgement found, by what it answered: where older passes kept it back, all that are left
+abbrev pub found_by : Ack → ℕ → ℕ
+found_by (acks.Done receipt) left = 0
+found_by (acks.Busy older) left = left
+found_by (acks.Behind found) left = found
+found_by acks.Idle left = 0
+
+-- what a try showed, how many tries there were, and what it added to the history, after an acknowledgement, forced or not: it
+-- is a try only while a change is pending
 abbrev pub shown_after : Phase → Shown → ℕ → ℕ → Shown
 shown_after (Settled number version) before older found = before
 shown_after (Pending number old new) before older found = record { older = older; found = found; left = found }
@@ -118,19 +150,19 @@ abbrev pub tries_after : Phase → ℕ → ℕ
 tries_after (Settled number version) tries = tries
 tries_after (Pending number old new) tries = counted tries
 
-abbrev pub added_by : {Call Reply : Type 0} → Phase → Bool → List (Entry Call Reply)
-added_by phase false = []
-added_by phase true = Ack (number_of phase) ∷ []
+abbrev pub added_by : {Call Reply : Type 0} → Bool → Phase → Bool → List (Entry Call Reply)
+added_by forced phase false = []
+added_by forced phase true = acknowledgement forced (number_of phase) ∷ []
 
--- a held pass has a policy number that may be named
-abbrev pub IsNamed : Phase → Option ℕ → Type 0
-IsNamed phase None = Unit {0}
-IsNamed phase (Some number) = MayName phase number
+-- a held pass has a policy number that a call may have, by the greatest forced one
+abbrev pub IsNamed : Phase → ℕ → Option ℕ → Type 0
+IsNamed phase forced None = Unit {0}
+IsNamed phase forced (Some number) = MayCall phase forced number
 
--- every held pass has a policy number that may be named
-abbrev pub AreNamed : Phase → List (Option ℕ) → Type 0
-AreNamed phase [] = Unit {0}
-AreNamed phase (one ∷ held) = IsNamed phase one × AreNamed phase held
+-- every held pass has a policy number that a call may have
+abbrev pub AreNamed : Phase → ℕ → List (Option ℕ) → Type 0
+AreNamed phase forced [] = Unit {0}
+AreNamed phase forced (one ∷ held) = IsNamed phase forced one × AreNamed phase forced held
 
 -- what contracts see of a manager on one thread: its keeper, the held passes by client, the last policy number that may be
 -- made, how many tries of a change there were, and what the last one showed

@@ -1,11 +1,11 @@
 -- What the administrator sees of a manager, and what each of its three calls does to that.
-use Rattle.std.specs.Prelude.{◌≡◌, ℕ, ◌+◌, ◌-◌, ◌⊎◌, min, Bool, true, false, IsTrue, List, [], ◌∷◌, ◌++◌, All, length, take, drop, Option, Some, None, option_map, is_some, Result, Ok, Err, if◌then◌else◌, IfSome}
+use Rattle.std.specs.Prelude.{◌≤◌, ◌≡◌, ℕ, ◌+◌, ◌-◌, ◌⊎◌, min, Bool, true, false, IsTrue, List, [], ◌∷◌, ◌++◌, All, length, take, drop, Option, Some, None, option_map, is_some, Result, Ok, Err, if◌then◌else◌, IfSome}
 use Rattle.access_vectors.specs.Asking.{counted}
 use Rattle.access_vectors.specs.Phases.{number_of, is_pending, noticed, acknowledged}
 use Rattle.access_vectors.specs.Stale.{Follows, now_following, all_following}
 use Rattle.access_vectors.specs.declared.phase.Phase.{Phase}
 use Rattle.access_vectors.specs.Notices.{notice_fault, IsRefusal}
-use Rattle.manager_history.specs.Kept.{ack_answer, is_done}
+use Rattle.manager_history.specs.Kept.{ack_answer, force_answer, is_done}
 use Rattle.manager_history.specs.declared.answers.Ack.{Ack}
 use Rattle.access_vectors.specs.declared.change.NotifyFault.{NotifyFault}
 use Rattle.manager_history.specs.declared.entry.Entry.{Entry}
@@ -17,8 +17,10 @@ use Rattle.managed.specs.declared.managed.Event.TheVariants.{Operation, Notice, 
 -- an entry of a history as the administrator sees it
 abbrev pub event_of : {Call Reply : Type 0} → Entry Call Reply → Event
 event_of (entry.Op caller mark call number asked reply) = Operation caller mark number
+event_of (entry.Aborted caller mark call number) = Operation caller mark number
 event_of (entry.Notice number version) = Notice number version
-event_of (entry.Ack number) = Acknowledgement number
+event_of (entry.Ack number) = Acknowledgement number false
+event_of (entry.Forced number) = Acknowledgement number true
 
 -- what the administrator sees of a manager: its number, where its change of policy stands, its history, the last policy
 -- number that may be made, how many versions there are, how many tries of a change there were, and what the last one showed.
@@ -71,10 +73,11 @@ pub record IsServed (old new : Seen) : Type 0 where
   pub phase : new.phase ≡ old.phase
   pub history : IsGrown false old.history new.history []
 
--- a call that tried nothing
+-- a call that tried nothing; where items are told, each item counts as a try, and a call may add one. The count never falls.
 pub record IsUntried (old new : Seen) : Type 0 where
-  pub tries : new.tries ≡ old.tries
-  pub shown : new.shown ≡ old.shown
+  pub rises : old.tries ≤ new.tries
+  pub tries : is_some old.items ≡ false → new.tries ≡ old.tries
+  pub shown : is_some old.items ≡ false → new.shown ≡ old.shown
 
 -- a notice that was given, under its number
 pub record IsNoticed (version : ℕ) (old new : Seen) (number : ℕ) : Type 0 where
@@ -126,45 +129,56 @@ pub record IsUpdated (most : ℕ) (old new : Seen) (left : ℕ) : Type 0 where
   pub follows : new.follows ≡ revised_follows most old.phase old.stale old.follows
   pub stale : new.stale ≡ option_map (drop most) old.stale
 
--- what an acknowledgement adds to the history
-abbrev pub acknowledging : Phase → Bool → List Event
-acknowledging phase false = []
-acknowledging phase true = Acknowledgement (number_of phase) ∷ []
+-- what an acknowledgement, forced or not, adds to the history
+abbrev pub acknowledging : Bool → Phase → Bool → List Event
+acknowledging forced phase false = []
+acknowledging forced phase true = Acknowledgement (number_of phase) forced ∷ []
 
-abbrev pub acknowledging_item : Phase → Bool → Option Event
-acknowledging_item phase false = None
-acknowledging_item phase true = Some (Acknowledgement (number_of phase))
+abbrev pub acknowledging_item : Bool → Phase → Bool → Option Event
+acknowledging_item forced phase false = None
+acknowledging_item forced phase true = Some (Acknowledgement (number_of phase) forced)
 
 -- what slots follow after it, where that is told
 abbrev pub settled_follows : Phase → Bool → Option Follows → Option Follows
 settled_follows phase false follows = follows
 settled_follows phase true follows = option_map (all_following (number_of phase)) follows
 
--- while a change is pending an acknowledgement is a try, which shows the older passes and the stale slots that it found
-pub record IsTried (old new : Seen) (done : Bool) : Type 0 where
+-- the older passes that it shows: those that it waits for, where they are told; and a forced one waits for none
+abbrev pub ShowsOlder : Bool → Option ℕ → ℕ → Type 0
+ShowsOlder false told shown = IfSome told (λ older. shown ≡ older)
+ShowsOlder true told shown = shown ≡ 0
+
+-- while a change is pending an acknowledgement is a try, which shows the older passes that it waits for and the stale slots
+-- that it found
+pub record IsTried (forced : Bool) (old new : Seen) (done : Bool) : Type 0 where
   pub tries : new.tries ≡ counted old.tries
-  pub older_shown : IfSome old.older (λ older. new.shown.older ≡ older)
+  pub older_shown : ShowsOlder forced old.older new.shown.older
   pub found_shown : IfSome old.stale (λ stale. new.shown.found ≡ length stale)
   pub left_shown : new.shown.left ≡ new.shown.found
-  pub items : HasItem old.items new.items (acknowledging_item old.phase done)
+  pub items : HasItem old.items new.items (acknowledging_item forced old.phase done)
 
 -- where no change is pending an acknowledgement is no try
 pub record IsIdle (old new : Seen) : Type 0 where
   pub untried : IsUntried old new
   pub items : MayHaveItem old.items new.items
 
-abbrev pub IsTriedWhere : Bool → Seen → Seen → Bool → Type 0
-IsTriedWhere true old new done = IsTried old new done
-IsTriedWhere false old new done = IsIdle old new
+abbrev pub IsTriedWhere : Bool → Bool → Seen → Seen → Bool → Type 0
+IsTriedWhere true forced old new done = IsTried forced old new done
+IsTriedWhere false forced old new done = IsIdle old new
 
--- an acknowledgement: idle where no change is pending; else busy where older passes are out, behind where slots are stale,
--- and else done
-pub record IsAcknowledged (old new : Seen) (said : Ack) : Type 0 where
+-- what an acknowledgement, forced or not, answers by what it showed: a forced one is never busy
+abbrev pub answer_of : Bool → Phase → ℕ → Shown → Ack
+answer_of false phase manager shown = ack_answer phase manager shown.older shown.found
+answer_of true phase manager shown = force_answer phase manager shown.found
+
+-- an acknowledgement: idle where no change is pending; else busy where it waits for older passes, behind where slots are stale,
+-- and else done. A forced one waits for no pass.
+pub record IsAcknowledged (forced : Bool) (old new : Seen) (said : Ack) : Type 0 where
   pub same : IsSame old new
-  pub answer : said ≡ ack_answer old.phase old.manager new.shown.older new.shown.found
-  pub tried : IsTriedWhere (is_pending old.phase) old new (is_done said)
+  pub answer : said ≡ answer_of forced old.phase old.manager new.shown
+  pub tried : IsTriedWhere (is_pending old.phase) forced old new (is_done said)
   pub phase : new.phase ≡ (if is_done said then acknowledged old.phase else old.phase)
-  pub history : IsGrown (is_some old.follows) old.history new.history (acknowledging old.phase (is_done said))
+  pub history : IsGrown (is_some old.follows) old.history new.history (acknowledging forced old.phase (is_done said))
   pub older : is_some new.older ≡ is_some old.older
   pub follows : new.follows ≡ settled_follows old.phase (is_done said) old.follows
   pub stale : is_some new.stale ≡ is_some old.stale

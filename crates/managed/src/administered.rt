@@ -29,6 +29,10 @@ impl<'d, C: Core, D: Decider> Managed for Plain<'d, C, D> {
         Plain::acknowledge(self)
     }
 
+    fn force<R: Wait>(&mut self, rt: &R) -> Ack {
+        Plain::force(self)
+    }
+
     ghost reflexive = { λ a. record { opened = refl; decider = refl; manager = refl; most = refl; held = refl; state_is = refl } };
 
     ghost transitive = { λ a b c ab bc. record {

@@ -1,7 +1,8 @@
 //! A manager as the administrator of a policy change sees it.
 //!
-//! `Managed` is what the administrator asks of a manager: a notice, updates, an acknowledgement. `Serves` is what clients do at one
-//! between these. `Plain` is a manager on one thread: a keeper, and the passes that its clients hold.
+//! `Managed` is what the administrator asks of a manager: a notice, updates, an acknowledgement, which may be forced.
+//! `Serves` is what clients do at one between these. `Plain` is a manager on one thread: a keeper, and the passes that its
+//! clients hold.
 #![tactic(auto)]
 
 mod administered;

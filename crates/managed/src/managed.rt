@@ -1,12 +1,13 @@
 //! What the administrator of a change asks of a manager.
 
+ghost use Rattle.std.specs.Prelude.{false, true};
 ghost use Rattle.managed.specs.Seen.{Seen, IsNotified, IsUpdated, IsAcknowledged};
 
 use manager_history::{Ack, NotifyFault};
 use std::alloc::Global;
 use std::sync::Wait;
 
-/// What a try of a change showed: passes below the pending number, and stale slots found and left.
+/// What a try of a change showed: the older passes that it waits for, and stale slots found and left.
 #[derive(Clone, Copy, Debug, PartialEq, Eq)]
 pub struct Shown {
     pub older: u64,
@@ -17,10 +18,10 @@ pub struct Shown {
 /// An entry of a manager's history, as the administrator sees it.
 #[derive(Clone, Copy, Debug, PartialEq, Eq)]
 pub enum Event {
-    /// A caller's operation under a policy number. `mark` is the caller's own number of it.
+    /// A caller's call under a policy number, done or aborted. `mark` is the caller's own number of it.
     Operation { caller: u8, mark: u32, number: u32 },
     Notice { number: u32, version: u8 },
-    Acknowledgement { number: u32 },
+    Acknowledgement { number: u32, forced: bool },
 }
 
 /// A manager whose policy is changed in three steps. A call may wait for the manager's turn.
@@ -42,9 +43,15 @@ pub trait Managed {
         ensures updated { IsUpdated k (seen self.old) (seen self.new) result }
         ensures same { same self.old self.new };
 
-    /// Acknowledges the pending number, where no pass below it is out and no slot is stale. It takes no memory.
+    /// Acknowledges the pending number, where no pass of the settled number is out and no slot is stale. It takes no memory.
     fn acknowledge<R: Wait>(&mut self, rt: &R) -> Ack
-        ensures acknowledged { IsAcknowledged (seen self.old) (seen self.new) result }
+        ensures acknowledged { IsAcknowledged false (seen self.old) (seen self.new) result }
+        ensures same { same self.old self.new };
+
+    /// Acknowledges the pending number, where no slot is stale, whatever passes are out: from then on the calls of older ones
+    /// are aborted. It takes no memory.
+    fn force<R: Wait>(&mut self, rt: &R) -> Ack
+        ensures forced { IsAcknowledged true (seen self.old) (seen self.new) result }
         ensures same { same self.old self.new };
 
     /// Each value is the same as itself.

@@ -1,17 +1,17 @@
 //! A manager on one thread: its keeper, and the passes that its clients hold.
 
-ghost use Rattle.std.specs.Prelude.{◌≡◌, ◌+◌, ◌-◌, ◌<◌, ◌≤◌, [], ◌∷◌, ◌++◌, length, take, drop, replicate, min, None, IfOk, IfErr, OnOk, OnErr};
+ghost use Rattle.std.specs.Prelude.{◌≡◌, ◌+◌, ◌-◌, ◌<◌, ◌≤◌, false, true, [], ◌∷◌, ◌++◌, length, take, drop, replicate, min, None, IfOk, IfErr, OnOk, OnErr};
 ghost use Rattle.access_vectors.specs.Asking.{counted};
 ghost use Rattle.access_vectors.specs.Notices.{notice_fault, IsRefusal};
 ghost use Rattle.access_vectors.specs.Phases.{number_of};
 ghost use Rattle.access_vectors.specs.Stale.{now_following};
-ghost use Rattle.manager_history.specs.Kept.{ack_answer, is_done, stale_in};
+ghost use Rattle.manager_history.specs.Kept.{ack_answer, force_answer, is_done, stale_in};
 ghost use Rattle.managed.specs.Posts;
 
 use crate::managed::Shown;
 use access_vectors::{Asked, Decider, Phase, Plainly, Steps};
 use flask_sid::Memory;
-use manager_history::{Ack, Core, Entry, Keeper, NotifyFault, Passes};
+use manager_history::{Ack, Answer, Core, Entry, Keeper, NotifyFault, Passes};
 use std::alloc::Global;
 use std::marker::{Brand, Model};
 use std::sync::ledger::{Blank, Ledger};
@@ -30,6 +30,7 @@ pub struct Plain<'d, C: Core, D: Decider> {
 impl<'d, C: Core, D: Decider> Model for Plain<'d, C, D> {
     ghost use Rattle.std.specs.Prelude.{◌≡◌, ◌≤◌};
     ghost use Rattle.access_vectors.specs.Phases.{number_of, AreVersions};
+    ghost use Rattle.manager_history.specs.Histories.{greatest_forced};
     ghost use Rattle.managed.specs.Posts.{Stood, AreNamed};
 
     ghost Value = { Stood C D C.Call C.Reply };
@@ -42,7 +43,7 @@ impl<'d, C: Core, D: Decider> Model for Plain<'d, C, D> {
       shown = plain.shown;
     } };
 
-    ghost invariant = { λ plain. AreNamed plain.keeper.phase plain.passes
+    ghost invariant = { λ plain. AreNamed plain.keeper.phase (greatest_forced plain.keeper.history) plain.passes
         × (number_of plain.keeper.phase ≤ plain.most)
         × AreVersions (D.decides plain.keeper.decider).versions plain.keeper.phase };
 }
@@ -75,25 +76,25 @@ impl<'d, C: Core, D: Decider> Plain<'d, C, D> {
         }
     }
 
-    /// Does a client's call, under its held pass or else a pass of the newest number. After `Memory` all is as before.
+    /// Does a client's call, under its held pass or else a pass of the newest number. One under a pass below the settled
+    /// number is aborted, and changes nothing but the history. After `Memory` all is as before.
     pub fn call(
         &mut self,
         alloc: Global,
         client: u8,
         mark: u32,
         call: C::Call,
-    ) -> Result<C::Reply, Memory>
+    ) -> Result<Answer<C::Reply>, Memory>
         requires formed { C.formed (D.decides self.old.keeper.decider) (C.state self.old.keeper.core) client call }
         requires client { client < 64 }
-        ensures reply { let post = Posts.post_of C.state C.follows self.old in
-            IfOk result (λ reply. reply ≡ (Posts.answer_on C.plain (D.decides self.old.keeper.decider) post client call).reply) }
+        ensures answer { let post = Posts.post_of C.state C.follows self.old in
+            IfOk result (λ said. said ≡ Posts.said_on C.plain (D.decides self.old.keeper.decider) post client call) }
         ensures post { let post = Posts.post_of C.state C.follows self.old in
             let answer = Posts.answer_on C.plain (D.decides self.old.keeper.decider) post client call in
             OnOk result (Posts.post_of C.state C.follows self.new ≡ Posts.called C.followed (D.decides self.old.keeper.decider) post client call answer) }
         ensures added { let post = Posts.post_of C.state C.follows self.old in
-            let asked = (Posts.answer_on C.plain (D.decides self.old.keeper.decider) post client call).asked in
-            IfOk result (λ reply. self.new.keeper.history
-            ≡ self.old.keeper.history ++ Entry.Op client mark call (Posts.acting_number post client) asked reply ∷ []) }
+            let entry = Posts.entry_on C.plain (D.decides self.old.keeper.decider) post client mark call in
+            OnOk result (self.new.keeper.history ≡ self.old.keeper.history ++ entry ∷ []) }
         ensures as_before { OnErr result (self.new ≡ self.old) }
         ensures same { Posts.IsSameUntried C.opening self.old self.new }
     {
@@ -104,7 +105,7 @@ impl<'d, C: Core, D: Decider> Plain<'d, C, D> {
             .call(alloc, client, mark, call, number, &mut asker)
     }
 
-    /// What the newest entry of the history asked, which is nothing where it is no call.
+    /// What the newest entry of the history asked, which is nothing where it is no operation.
     #[tactic(auto, unfolding(crate::specs::Posts::last_asked))]
     pub fn last_asked(&self) -> &[Asked]
         ensures { result.now ≡ Posts.last_asked self.now.keeper.history }
@@ -199,7 +200,7 @@ impl<'d, C: Core, D: Decider> Plain<'d, C, D> {
         left
     }
 
-    /// Acknowledges the pending number, where no pass below it is held and no slot is stale. It takes no memory.
+    /// Acknowledges the pending number, where no pass of the settled number is held and no slot is stale. It takes no memory.
     pub fn acknowledge(&mut self) -> Ack
         ensures answer { let stale = stale_in (D.decides self.old.keeper.decider) C.class C.pair_of C.state C.follows self.old.keeper in
             let older = Posts.older_on (Posts.post_of C.state C.follows self.old) in
@@ -209,21 +210,67 @@ impl<'d, C: Core, D: Decider> Plain<'d, C, D> {
             let older = Posts.older_on (Posts.post_of C.state C.follows self.old) in
             self.new.shown ≡ Posts.shown_after self.old.keeper.phase self.old.shown older (length stale) }
         ensures tries { self.new.tries ≡ Posts.tries_after self.old.keeper.phase self.old.tries }
-        ensures history { self.new.keeper.history ≡ self.old.keeper.history ++ Posts.added_by self.old.keeper.phase (is_done result) }
+        ensures history { self.new.keeper.history ≡ self.old.keeper.history ++ Posts.added_by false self.old.keeper.phase (is_done result) }
         ensures same { Posts.IsSameManager C.opening self.old self.new }
     {
-        let Phase::Pending { number, .. } = self.keeper.phase() else {
+        let older = self.older();
+        let Phase::Pending { .. } = self.keeper.phase() else {
             return Ack::Idle;
         };
-        let older = self.passes.older(number);
-        let found = self.keeper.left();
+        let ack = self.keeper.acknowledge(older);
+        let found = found_by(&self.keeper, ack);
         self.tries = self.tries.saturating_add(1);
         self.shown = Shown {
             older,
             found,
             left: found,
         };
-        self.keeper.acknowledge(older)
+        ack
+    }
+
+    /// How many passes of the settled number are held.
+    fn older(&self) -> u64
+        ensures { result ≡ Posts.older_on (Posts.post_of C.state C.follows self.now) }
+    {
+        self.passes.at(self.keeper.phase().settled())
+    }
+
+    /// Acknowledges the pending number, where no slot is stale, whatever passes are held: from then on the calls of older ones
+    /// are aborted. It takes no memory.
+    pub fn force(&mut self) -> Ack
+        ensures answer { let stale = stale_in (D.decides self.old.keeper.decider) C.class C.pair_of C.state C.follows self.old.keeper in
+            result ≡ force_answer self.old.keeper.phase self.old.keeper.manager (length stale) }
+        ensures post { Posts.post_of C.state C.follows self.new ≡ Posts.settled_if (Posts.post_of C.state C.follows self.old) (is_done result) }
+        ensures shown { let stale = stale_in (D.decides self.old.keeper.decider) C.class C.pair_of C.state C.follows self.old.keeper in
+            self.new.shown ≡ Posts.shown_after self.old.keeper.phase self.old.shown 0 (length stale) }
+        ensures tries { self.new.tries ≡ Posts.tries_after self.old.keeper.phase self.old.tries }
+        ensures history { self.new.keeper.history ≡ self.old.keeper.history ++ Posts.added_by true self.old.keeper.phase (is_done result) }
+        ensures same { Posts.IsSameManager C.opening self.old self.new }
+    {
+        let Phase::Pending { .. } = self.keeper.phase() else {
+            return Ack::Idle;
+        };
+        let ack = self.keeper.force();
+        let found = found_by(&self.keeper, ack);
+        self.tries = self.tries.saturating_add(1);
+        self.shown = Shown {
+            older: 0,
+            found,
+            left: found,
+        };
+        ack
+    }
+}
+
+/// How many stale slots an acknowledgement found, by what it answered: it counts them only where older passes kept it back
+/// before it did.
+fn found_by<C: Core, D: Decider>(keeper: &Keeper<'_, C, D>, ack: Ack) -> u64
+    ensures { result ≡ Posts.found_by ack (length (C.stale keeper.now.core)) }
+{
+    match ack {
+        Ack::Busy { .. } => keeper.left(),
+        Ack::Behind { left } => left,
+        Ack::Done(_) | Ack::Idle => 0,
     }
 }
 

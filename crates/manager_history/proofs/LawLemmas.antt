@@ -8,7 +8,7 @@ use Rattle.access_vectors.specs.Phases.{version_at, MayName}
 use Rattle.access_vectors.specs.declared.phase.Phase.{Phase}
 use Rattle.access_vectors.specs.declared.asked.Asked.{Asked}
 use Rattle.manager_history.specs.declared.entry.Entry.{Entry}
-use Rattle.manager_history.specs.declared.entry.Entry.TheVariants.{Op, Notice, Ack}
+use Rattle.manager_history.specs.declared.entry.Entry.TheVariants.{Op, Aborted, Notice, Ack, Forced}
 use Rattle.manager_history.specs.Answers.{Manager, Denial, IsTold, EndsWithNo, AreQuestionsOf, IsHonest}
 use Rattle.manager_history.specs.Histories.{Moment, answer_at, after, IsLawful}
 use Rattle.manager_history.specs.Laws.{IsInForce, RevocationHolds, IsJustReply, DenialsAreJust}
@@ -53,10 +53,14 @@ revocation_from_lawful denial_of plain formed d at (Op caller mark call number a
       (subst (All (IsTold d (version_at at.phase number))) (sym lawful.0.asked_is) (honest at.state caller call number (version_at at.phase number)).told),
   revocation_from_lawful denial_of plain formed d (after plain d at (Op caller mark call number asked reply)) rest honest lawful.1,
 )
+revocation_from_lawful denial_of plain formed d at (Aborted caller mark call number ∷ rest) honest lawful =
+    (tt, revocation_from_lawful denial_of plain formed d (after plain d at (Aborted caller mark call number)) rest honest lawful.1)
 revocation_from_lawful denial_of plain formed d at (Notice number version ∷ rest) honest lawful =
     (tt, revocation_from_lawful denial_of plain formed d (after plain d at (Notice number version)) rest honest lawful.1)
 revocation_from_lawful denial_of plain formed d at (Ack number ∷ rest) honest lawful =
     (tt, revocation_from_lawful denial_of plain formed d (after plain d at (Ack number)) rest honest lawful.1)
+revocation_from_lawful denial_of plain formed d at (Forced number ∷ rest) honest lawful =
+    (tt, revocation_from_lawful denial_of plain formed d (after plain d at (Forced number)) rest honest lawful.1)
 
 -- each denial in a lawful history is just
 pub denials_from_lawful : {Call Reply State : Type 0} (denial_of : Reply → Option Denial) (plain : Manager Call Reply State)
@@ -64,15 +68,19 @@ pub denials_from_lawful : {Call Reply State : Type 0} (denial_of : Reply → Opt
     → AnswersHonestly denial_of plain d → IsLawful plain formed d at history → DenialsAreJust denial_of d at.phase history
 denials_from_lawful denial_of plain formed d at [] honest lawful = tt
 denials_from_lawful denial_of plain formed d at (Op caller mark call number asked reply ∷ rest) honest lawful =
-    let answer : IsHonest denial_of d number (version_at at.phase number) (answer_at plain d at caller call number)
+    let answer : IsHonest denial_of d number (version_at at.phase number) (answer_at plain d at.state at.phase caller call number)
     = honest at.state caller call number (version_at at.phase number) in (
       just d at.phase number asked (denial_of reply) lawful.0.named
           (subst (All (IsTold d (version_at at.phase number))) (sym lawful.0.asked_is) answer.told)
           (let Ends : _ → List Asked → Type 0 = λ r qs. AreQuestionsOf (denial_of r) number qs in
-          subst (λ qs. Ends reply qs) (sym lawful.0.asked_is) (subst (λ r. Ends r (answer_at plain d at caller call number).asked) (sym lawful.0.reply_is) answer.ends)),
+          subst (λ qs. Ends reply qs) (sym lawful.0.asked_is) (subst (λ r. Ends r (answer_at plain d at.state at.phase caller call number).asked) (sym lawful.0.reply_is) answer.ends)),
       denials_from_lawful denial_of plain formed d (after plain d at (Op caller mark call number asked reply)) rest honest lawful.1,
     )
+denials_from_lawful denial_of plain formed d at (Aborted caller mark call number ∷ rest) honest lawful =
+    (tt, denials_from_lawful denial_of plain formed d (after plain d at (Aborted caller mark call number)) rest honest lawful.1)
 denials_from_lawful denial_of plain formed d at (Notice number version ∷ rest) honest lawful =
     (tt, denials_from_lawful denial_of plain formed d (after plain d at (Notice number version)) rest honest lawful.1)
 denials_from_lawful denial_of plain formed d at (Ack number ∷ rest) honest lawful =
     (tt, denials_from_lawful denial_of plain formed d (after plain d at (Ack number)) rest honest lawful.1)
+denials_from_lawful denial_of plain formed d at (Forced number ∷ rest) honest lawful =
+    (tt, denials_from_lawful denial_of plain formed d (after plain d at (Forced number)) rest honest lawful.1)

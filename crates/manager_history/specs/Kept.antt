@@ -10,7 +10,7 @@ use Rattle.manager_history.specs.declared.entry.Entry.{Entry}
 use Rattle.manager_history.specs.declared.answers.Ack.{Ack}
 use Rattle.manager_history.specs.declared.answers.Ack.TheVariants as acks
 use Rattle.manager_history.specs.Answers.{Manager}
-use Rattle.manager_history.specs.Histories.{moment, start_of, replay, IsLawful}
+use Rattle.manager_history.specs.Histories.{moment, start_of, replay, greatest_forced, IsLawful}
 
 -- what contracts see of a keeper: the core, the decider, the manager's number, the phase, and the history, oldest first
 pub record Kept (Core Decider Call Reply : Type 0) : Type 0 where
@@ -35,18 +35,22 @@ HasPlace (Pending pending old new) count room = count < room
 pub record IsKept {Call Reply State : Type 0} (d : Decisions) (plain : Manager Call Reply State)
     (formed : Decisions → State → ℕ → Call → Type 0) (opening state : State) (phase : Phase)
     (history : List (Entry Call Reply)) (room : ℕ) : Type 0 where
-  pub replayed : replay plain d (start_of opening) history ≡ moment state phase
+  pub replayed : replay plain d (start_of opening) history ≡ moment state phase (greatest_forced history)
   pub lawful : IsLawful plain formed d (start_of opening) history
   pub versions : AreVersions d.versions phase
   pub spare : HasPlace phase (length history) room
 
--- what an acknowledgement answers, by the passes below the pending number and the stale slots
+-- what an acknowledgement answers, by the passes that it waits for and the stale slots
 abbrev pub ack_answer : Phase → ℕ → ℕ → ℕ → Ack
 ack_answer (Settled settled version) manager older stale = acks.Idle
 ack_answer (Pending pending old new) manager older stale =
     if nat_lt 0 older then acks.Busy older
     else if nat_lt 0 stale then acks.Behind stale
     else acks.Done (record { manager = manager; number = pending })
+
+-- what a forced acknowledgement answers, by the stale slots: it waits for no pass
+abbrev pub force_answer : Phase → ℕ → ℕ → Ack
+force_answer phase manager stale = ack_answer phase manager 0 stale
 
 -- the change is acknowledged
 abbrev pub is_done : Ack → Bool

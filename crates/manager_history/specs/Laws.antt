@@ -6,7 +6,7 @@ use Rattle.access_vectors.specs.Phases.{version_at, MayName}
 use Rattle.access_vectors.specs.declared.phase.Phase.{Phase}
 use Rattle.access_vectors.specs.declared.asked.Asked.{Asked}
 use Rattle.manager_history.specs.declared.entry.Entry.{Entry}
-use Rattle.manager_history.specs.declared.entry.Entry.TheVariants.{Op, Notice, Ack}
+use Rattle.manager_history.specs.declared.entry.Entry.TheVariants.{Op, Aborted, Notice, Ack, Forced}
 use Rattle.manager_history.specs.Answers.{Denial, EndsWithNo}
 use Rattle.manager_history.specs.Histories.{phase_after}
 
@@ -19,8 +19,10 @@ pub record IsInForce (d : Decisions) (phase : Phase) (number : ℕ) (asked : Lis
 -- an entry keeps revocation
 abbrev pub KeepsRevocation : {Call Reply : Type 0} → Decisions → Phase → Entry Call Reply → Type 0
 KeepsRevocation d phase (Op caller mark call number asked reply) = IsInForce d phase number asked
+KeepsRevocation d phase (Aborted caller mark call number) = Unit {0}
 KeepsRevocation d phase (Notice number version) = Unit {0}
 KeepsRevocation d phase (Ack number) = Unit {0}
+KeepsRevocation d phase (Forced number) = Unit {0}
 
 -- revocation holds from a phase on: no operation rests on a permission that the policy in force lacks
 abbrev pub RevocationHolds : {Call Reply : Type 0} → Decisions → Phase → List (Entry Call Reply) → Type 0
@@ -43,8 +45,10 @@ IsJustReply d phase number asked (Some denial) = IsJust d phase number asked den
 -- an entry keeps just denial
 abbrev pub KeepsJustDenial : {Call Reply : Type 0} → (Reply → Option Denial) → Decisions → Phase → Entry Call Reply → Type 0
 KeepsJustDenial denial_of d phase (Op caller mark call number asked reply) = IsJustReply d phase number asked (denial_of reply)
+KeepsJustDenial denial_of d phase (Aborted caller mark call number) = Unit {0}
 KeepsJustDenial denial_of d phase (Notice number version) = Unit {0}
 KeepsJustDenial denial_of d phase (Ack number) = Unit {0}
+KeepsJustDenial denial_of d phase (Forced number) = Unit {0}
 
 -- each denial from a phase on is just
 abbrev pub DenialsAreJust : {Call Reply : Type 0} → (Reply → Option Denial) → Decisions → Phase → List (Entry Call Reply) → Type 0

@@ -165,6 +165,11 @@ pub trait Core {
     ghost honest: { (d : Decisions) (at : State) (caller : ℕ) (call : Self.Call) (number version : ℕ)
         → IsHonest denial_of d number version (plain d at caller call number version) };
 
+    /// A call that is well formed stays so, whatever calls come before it: many callers need not know the state that each
+    /// of them finds.
+    ghost formed_stays: { (d : Decisions) (at : State) (caller : ℕ) (call : Self.Call) (number version other : ℕ) (later : Self.Call)
+        → formed d at caller call → formed d at other later → formed d (plain d at caller call number version).state other later };
+
     /// The stale slots are those that follow the number before the pending one, and on whose pair the two versions
     /// differ.
     ghost are_stale: { (d : Decisions) (core : Self) → fits d core

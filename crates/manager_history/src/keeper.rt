@@ -2,7 +2,7 @@
 
 ghost use Rattle.std.specs.Prelude.{◌≡◌, ◌+◌, ◌<◌, ◌≤◌, [], ◌∷◌, ◌++◌, vec_len, vec_capacity};
 
-use crate::answers::Ack;
+use crate::answers::{Ack, Answer};
 use crate::core_trait::Core;
 use crate::entry::{Entry, History};
 use access_vectors::{Asker, Decider, NotifyFault, Phase, Questions, Receipt, Steps};
@@ -58,12 +58,13 @@ impl<'d, C: Core, D: Decider> Keeper<'d, C, D> {
     ghost use Rattle.std.specs.Prelude.{◌≡◌, ◌+◌, ◌≤◌, true, false, min, [], ◌∷◌, ◌++◌, length, take, drop};
     ghost use Rattle.std.specs.Prelude.{None, is_some, IsTrue, IfOk, IfErr, OnOk, OnErr, if◌then◌else◌};
     ghost use Rattle.access_vectors.specs.Asking.{with_keys_of};
-    ghost use Rattle.access_vectors.specs.Phases.{number_of, version_at, MayName, noticed, is_pending, acknowledged};
-    ghost use Rattle.manager_history.specs.Histories.{moment, answer_at, start_of, replay, IsLawful};
+    ghost use Rattle.access_vectors.specs.Phases.{number_of, version_at, noticed, is_pending, acknowledged};
+    ghost use Rattle.access_vectors.specs.Forced.{is_aborted, MayCall};
+    ghost use Rattle.manager_history.specs.Histories.{moment, answer_at, said_at, entry_at, acknowledgement, greatest_forced, start_of, replay, IsLawful};
     ghost use Rattle.manager_history.specs.Laws.{RevocationHolds, DenialsAreJust};
     ghost use Rattle.access_vectors.specs.Stale.{AreNamed, now_following, all_following, is_use_following};
     ghost use Rattle.access_vectors.specs.Notices.{notice_fault, IsRefusal};
-    ghost use Rattle.manager_history.specs.Kept.{ack_answer, is_done, stale_in};
+    ghost use Rattle.manager_history.specs.Kept.{ack_answer, force_answer, is_done, stale_in};
 
     /// A core with an empty history, settled at number 0 with version 0. It takes no memory.
     pub fn new(alloc: Global, core: C, manager: u8, decider: &'d D) -> Keeper<'d, C, D>
@@ -90,8 +91,9 @@ impl<'d, C: Core, D: Decider> Keeper<'d, C, D> {
         }
     }
 
-    /// Does a caller's call under a policy number, and adds it to the history as one operation. `mark` is the caller's
-    /// own number of the call. After `Memory` the keeper is as before.
+    /// Does a caller's call under a policy number, and adds it to the history as one entry: an operation, or where the
+    /// number is below the settled one that the call was aborted, which leaves core and asker as they were. `mark` is the
+    /// caller's own number of the call. After `Memory` the keeper is as before.
     pub fn call<A: Asker>(
         &mut self,
         alloc: Global,
@@ -100,28 +102,30 @@ impl<'d, C: Core, D: Decider> Keeper<'d, C, D> {
         call: C::Call,
         number: u32,
         asker: &mut A,
-    ) -> Result<C::Reply, Memory>
-        requires decides { A.decides asker.old ≡ D.decides self.old.decider }
+    ) -> Result<Answer<C::Reply>, Memory>
         requires formed { C.formed (D.decides self.old.decider) (C.state self.old.core) caller call }
-        requires named { MayName self.old.phase number }
-        requires version { A.version asker.old ≡ version_at self.old.phase number }
-        ensures reply { let at = moment (C.state self.old.core) self.old.phase in
-            IfOk result (λ reply. reply ≡ (answer_at C.plain (D.decides self.old.decider) at caller call number).reply) }
-        ensures added { let at = moment (C.state self.old.core) self.old.phase in
-            let asked = (answer_at C.plain (D.decides self.old.decider) at caller call number).asked in
-            IfOk result (λ reply. self.new.history ≡ self.old.history ++ Entry.Op caller mark call number asked reply ∷ []) }
-        ensures state { let at = moment (C.state self.old.core) self.old.phase in
-            OnOk result (C.state self.new.core ≡ (answer_at C.plain (D.decides self.old.decider) at caller call number).state) }
-        ensures follows { IfOk result (λ reply. C.follows self.new.core
-            ≡ C.followed (D.decides self.old.decider) (C.state self.old.core) caller call number (version_at self.old.phase number) reply
-            (C.follows self.old.core)) }
-        ensures asks_nothing { IfOk result (λ reply. is_some (C.denial_of reply) ≡ false
+        requires named { MayCall self.old.phase (greatest_forced self.old.history) number }
+        requires decides { is_aborted self.old.phase number ≡ false → A.decides asker.old ≡ D.decides self.old.decider }
+        requires version { is_aborted self.old.phase number ≡ false → A.version asker.old ≡ version_at self.old.phase number }
+        ensures answer { let d = D.decides self.old.decider in
+            IfOk result (λ said. said ≡ said_at C.plain d (C.state self.old.core) self.old.phase caller call number) }
+        ensures added { let entry = entry_at C.plain (D.decides self.old.decider) (C.state self.old.core) self.old.phase caller mark call number in
+            OnOk result (self.new.history ≡ self.old.history ++ entry ∷ []) }
+        ensures aborted { is_aborted self.old.phase number ≡ true → (self.new.core ≡ self.old.core) × (asker.new ≡ asker.old) }
+        ensures state { let answer = answer_at C.plain (D.decides self.old.decider) (C.state self.old.core) self.old.phase caller call number in
+            is_aborted self.old.phase number ≡ false → OnOk result (C.state self.new.core ≡ answer.state) }
+        ensures follows { let d = D.decides self.old.decider in
+            let reply = (answer_at C.plain d (C.state self.old.core) self.old.phase caller call number).reply in
+            is_aborted self.old.phase number ≡ false → OnOk result (C.follows self.new.core
+            ≡ C.followed d (C.state self.old.core) caller call number (version_at self.old.phase number) reply (C.follows self.old.core)) }
+        ensures asks_nothing { let answer = answer_at C.plain (D.decides self.old.decider) (C.state self.old.core) self.old.phase caller call number in
+            is_aborted self.old.phase number ≡ false → is_some (C.denial_of answer.reply) ≡ false
             → is_use_following (C.use_of caller call) (C.follows self.old.core) number ≡ true
-            → A.asks asker.new ≡ A.asks asker.old) }
-        ensures keys { let at = moment (C.state self.old.core) self.old.phase in
-            let asked = (answer_at C.plain (D.decides self.old.decider) at caller call number).asked in
-            OnOk result (A.keys asker.new ≡ (if is_use_following (C.use_of caller call) (C.follows self.old.core) number
-            then A.keys asker.old else with_keys_of (A.keys asker.old) asked)) }
+            → OnOk result (A.asks asker.new ≡ A.asks asker.old) }
+        ensures keys { let answer = answer_at C.plain (D.decides self.old.decider) (C.state self.old.core) self.old.phase caller call number in
+            is_aborted self.old.phase number ≡ false
+            → OnOk result (A.keys asker.new ≡ (if is_use_following (C.use_of caller call) (C.follows self.old.core) number
+            then A.keys asker.old else with_keys_of (A.keys asker.old) answer.asked)) }
         ensures as_before { OnErr result (self.new ≡ self.old) }
         ensures phase { self.new.phase ≡ self.old.phase }
         ensures decider { self.new.decider ≡ self.old.decider }
@@ -129,7 +133,20 @@ impl<'d, C: Core, D: Decider> Keeper<'d, C, D> {
         ensures opening { C.opening self.new.core ≡ C.opening self.old.core }
         ensures same { A.same asker.old asker.new }
     {
+        let aborted = self.aborts(number);
         self.entries.reserve(2)?;
+        if aborted {
+            add(
+                &mut self.entries,
+                Entry::Aborted {
+                    caller,
+                    mark,
+                    call,
+                    number,
+                },
+            );
+            return Ok(Answer::Aborted);
+        }
         let mut asked = Questions::new(alloc);
         let (kept, reply) = self
             .core
@@ -143,7 +160,14 @@ impl<'d, C: Core, D: Decider> Keeper<'d, C, D> {
             reply: kept,
         };
         add(&mut self.entries, entry);
-        Ok(reply)
+        Ok(Answer::Did(reply))
+    }
+
+    /// Whether a call under this policy number is aborted.
+    fn aborts(&self, number: u32) -> bool
+        ensures { result ≡ is_aborted self.now.phase number }
+    {
+        number < self.phase.settled()
     }
 
     /// Begins a change to a version, under the next policy number, which it answers. `most` is the last policy number
@@ -219,14 +243,61 @@ impl<'d, C: Core, D: Decider> Keeper<'d, C, D> {
         }
     }
 
-    /// Acknowledges the pending number, where no pass below it is out and no slot is stale. The answers are tested in
-    /// this order: nothing is pending, older passes are out, stale slots are left, done. `older` is how many passes
-    /// below the pending number are out, which the caller knows. It takes no memory.
+    /// Acknowledges the pending number, where no pass of the settled number is out and no slot is stale. The answers are
+    /// tested in this order: nothing is pending, older passes are out, stale slots are left, done. `older` is how many
+    /// passes it waits for, which the caller knows: where it is 0, every pass that is out and below the pending number is
+    /// below the settled one too, so that its calls are aborted. It takes no memory.
     pub fn acknowledge(&mut self, older: u64) -> Ack
         ensures answer { let left = length (C.stale self.old.core) in
             result ≡ ack_answer self.old.phase self.old.manager older left }
+        ensures defined { C.stale self.old.core ≡ stale_in (D.decides self.old.decider) C.class C.pair_of C.state C.follows self.old }
         ensures added { IsTrue (is_done result)
             → self.new.history ≡ self.old.history ++ Entry.Ack (number_of self.old.phase) ∷ [] }
+        ensures settled { IsTrue (is_done result) → self.new.phase ≡ acknowledged self.old.phase }
+        ensures follows { IsTrue (is_done result)
+            → C.follows self.new.core ≡ all_following (number_of self.old.phase) (C.follows self.old.core) }
+        ensures as_before { is_done result ≡ false → self.new ≡ self.old }
+        ensures state { C.state self.new.core ≡ C.state self.old.core }
+        ensures decider { self.new.decider ≡ self.old.decider }
+        ensures manager { self.new.manager ≡ self.old.manager }
+        ensures opening { C.opening self.new.core ≡ C.opening self.old.core }
+    {
+        let Phase::Pending { .. } = self.phase else {
+            return Ack::Idle;
+        };
+        if older > 0 {
+            return Ack::Busy { older };
+        }
+        self.settle(false)
+    }
+
+    /// Acknowledges the pending number, where no slot is stale, and forces older passes out: from then on their calls are
+    /// aborted. The answers are tested in this order: nothing is pending, stale slots are left, done. It takes no memory.
+    pub fn force(&mut self) -> Ack
+        ensures answer { let left = length (C.stale self.old.core) in
+            result ≡ force_answer self.old.phase self.old.manager left }
+        ensures defined { C.stale self.old.core ≡ stale_in (D.decides self.old.decider) C.class C.pair_of C.state C.follows self.old }
+        ensures added { IsTrue (is_done result)
+            → self.new.history ≡ self.old.history ++ Entry.Forced (number_of self.old.phase) ∷ [] }
+        ensures settled { IsTrue (is_done result) → self.new.phase ≡ acknowledged self.old.phase }
+        ensures follows { IsTrue (is_done result)
+            → C.follows self.new.core ≡ all_following (number_of self.old.phase) (C.follows self.old.core) }
+        ensures as_before { is_done result ≡ false → self.new ≡ self.old }
+        ensures state { C.state self.new.core ≡ C.state self.old.core }
+        ensures decider { self.new.decider ≡ self.old.decider }
+        ensures manager { self.new.manager ≡ self.old.manager }
+        ensures opening { C.opening self.new.core ≡ C.opening self.old.core }
+    {
+        self.settle(true)
+    }
+
+    /// Settles the pending number by an acknowledgement, forced or not, where no slot is stale.
+    fn settle(&mut self, forced: bool) -> Ack
+        ensures answer { let left = length (C.stale self.old.core) in
+            result ≡ force_answer self.old.phase self.old.manager left }
+        ensures defined { C.stale self.old.core ≡ stale_in (D.decides self.old.decider) C.class C.pair_of C.state C.follows self.old }
+        ensures added { IsTrue (is_done result)
+            → self.new.history ≡ self.old.history ++ acknowledgement forced (number_of self.old.phase) ∷ [] }
         ensures settled { IsTrue (is_done result) → self.new.phase ≡ acknowledged self.old.phase }
         ensures follows { IsTrue (is_done result)
             → C.follows self.new.core ≡ all_following (number_of self.old.phase) (C.follows self.old.core) }
@@ -239,9 +310,6 @@ impl<'d, C: Core, D: Decider> Keeper<'d, C, D> {
         let Phase::Pending { number, new, .. } = self.phase else {
             return Ack::Idle;
         };
-        if older > 0 {
-            return Ack::Busy { older };
-        }
         let left = self.core.left();
         if left > 0 {
             return Ack::Behind { left };
@@ -251,7 +319,12 @@ impl<'d, C: Core, D: Decider> Keeper<'d, C, D> {
             number,
             version: new,
         };
-        add(&mut self.entries, Entry::Ack { number });
+        let entry = if forced {
+            Entry::Forced { number }
+        } else {
+            Entry::Ack { number }
+        };
+        add(&mut self.entries, entry);
         Ack::Done(Receipt {
             manager: self.manager,
             number,
@@ -296,7 +369,7 @@ impl<'d, C: Core, D: Decider> Keeper<'d, C, D> {
             IsLawful C.plain C.formed (D.decides self.now.decider) start self.now.history }
         ensures replayed { let start = start_of (C.opening self.now.core) in
             replay C.plain (D.decides self.now.decider) start self.now.history
-            ≡ moment (C.state self.now.core) self.now.phase }
+            ≡ moment (C.state self.now.core) self.now.phase (greatest_forced self.now.history) }
         ensures revocation { RevocationHolds (D.decides self.now.decider) (Phase.Settled 0 0) self.now.history }
         ensures denials { let d = D.decides self.now.decider in
             DenialsAreJust C.denial_of d (Phase.Settled 0 0) self.now.history }

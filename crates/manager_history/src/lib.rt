@@ -12,7 +12,7 @@ mod keeper;
 mod passes;
 
 pub use access_vectors::{NotifyFault, Receipt};
-pub use answers::Ack;
+pub use answers::{Ack, Answer};
 pub use core_trait::Core;
 pub use entry::{Entry, History};
 pub use keeper::Keeper;

@@ -1,7 +1,7 @@
 //! Plain passes: which policy number each caller acts under while it holds one.
 
 ghost use Rattle.std.specs.Prelude.{◌≡◌, ◌<◌, None, Some, replicate, slice_set, IsNone, IsSome};
-ghost use Rattle.manager_history.specs.Passing.{pass_of, older_count};
+ghost use Rattle.manager_history.specs.Passing.{pass_of, older_count, count_at};
 
 use std::marker::Model;
 
@@ -61,6 +61,16 @@ impl Passes {
         self.held
             .iter()
             .filter(|held| held.is_some_and(|held| held < number))
+            .count() as u64
+    }
+
+    /// How many passes of just that policy number are held.
+    pub fn at(&self, number: u32) -> u64
+        ensures { result ≡ count_at number self.now }
+    {
+        self.held
+            .iter()
+            .filter(|held| held.is_some_and(|held| held == number))
             .count() as u64
     }
 }

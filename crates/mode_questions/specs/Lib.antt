@@ -1,4 +1,5 @@
 pub mod Covered
 pub mod Requests
 pub mod Honesty
+pub mod Keeping
 pub mod Operations

@@ -9,6 +9,7 @@ use Rattle.policy_versions.specs.declared.compiling.CompileFault.TheVariants.{To
 use Rattle.policy_versions.specs.Places.{kind_at}
 use Rattle.policy_versions.specs.Judging.{TooMany, Broken, Fits, IsJudged, decisions_of, context_with, is_sid}
 use Rattle.policy_versions.specs.Tables.{place_with, decisions_by}
+use Rattle.policy_versions.specs.Vectors.{AreVectorsOf}
 
 -- a catalogue's contexts, in the order of their identifiers
 abbrev pub sids_of : Catalogue → List (ContextOf (List ℕ))
@@ -22,12 +23,13 @@ decides_of catalogue = decisions_by catalogue.versions catalogue.contexts catalo
 abbrev pub kind_of : Catalogue → ℕ → ℕ
 kind_of catalogue sid = (place_with catalogue.contexts sid).kind
 
--- a catalogue is that of a policy: its contexts are those to which the policy leads, no version breaks a line, and it decides
--- what the policy decides by these identifiers
+-- a catalogue is that of a policy: its contexts are those to which the policy leads, no version breaks a line, it decides what
+-- the policy decides by these identifiers, and its rows have the vectors of the policy's types
 pub record IsCatalogueOf (policy : PolicyParts) (catalogue : Catalogue) : Type 0 where
   pub judged : IsJudged policy (Fits (sids_of catalogue))
   pub decides : decides_of catalogue ≡ decisions_of policy (sids_of catalogue)
   pub kinds : (sid : ℕ) → IsTrue (is_sid (length (sids_of catalogue)) sid) → kind_at policy (kind_of catalogue sid) ≡ (context_with (sids_of catalogue) sid).kind
+  pub vectors : AreVectorsOf policy catalogue.vectors
 
 -- what compiling a policy may answer
 abbrev pub IsAnswer : PolicyParts → Result Catalogue CompileFault → Type 0

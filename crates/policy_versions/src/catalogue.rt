@@ -39,6 +39,13 @@ impl Catalogue {
         &self.contexts.sids
     }
 
+    /// The vectors of all versions, by the places of types.
+    pub fn vectors(&self) -> &VectorRows
+        ensures { result.now ≡ self.now.vectors }
+    {
+        &self.vectors
+    }
+
     /// Whether an identifier is one of the catalogue's.
     pub fn knows(&self, sid: Sid) -> bool
         ensures { result ≡ is_sid (length self.now.contexts.sids) sid }

@@ -56,6 +56,7 @@ pub fn new<F: Callback>(alloc: Global, opening: PortOpening, callback: F) -> Por
 impl<F: Callback> Core for PortCore<F> {
     ghost use Rattle.access_vectors.specs.declared.class.Class.TheVariants as class_names;
     ghost use Rattle.port_calls.specs.Honest.{honest_answer};
+    ghost use Rattle.port_calls.specs.Keeping.{formed_stays};
     ghost use Rattle.port_calls.specs.Plain as plainly;
     ghost use Rattle.port_calls.specs.Plain.{IsFormed};
     ghost use Rattle.port_calls.specs.States.{PortState, opened_with};
@@ -143,6 +144,9 @@ impl<F: Callback> Core for PortCore<F> {
     }
 
     ghost honest = { λ d at caller call number version. honest_answer d at caller call number version };
+
+    ghost formed_stays = { λ d at caller call number version other later formed next.
+        formed_stays d at caller call number version other later next };
 
     ghost are_stale = { λ d core fits. stale_as_defined d core fits };
 

@@ -3,4 +3,5 @@ pub mod States
 pub mod Rows
 pub mod Plain
 pub mod Honest
+pub mod Keeping
 pub mod Example

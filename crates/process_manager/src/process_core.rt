@@ -59,6 +59,7 @@ pub fn new<F: Callback + Drop>(
 impl<F: Callback> Core for ProcessCore<F> {
     ghost use Rattle.access_vectors.specs.declared.class.Class.TheVariants as class_of;
     ghost use Rattle.process_calls.specs.Honest.{honest_answer};
+    ghost use Rattle.process_calls.specs.Keeping.{formed_stays};
     ghost use Rattle.process_calls.specs.Plain as plainly;
     ghost use Rattle.process_calls.specs.Plain.{IsFormed};
     ghost use Rattle.process_calls.specs.States.{ProcessState, opened_with};
@@ -146,6 +147,9 @@ impl<F: Callback> Core for ProcessCore<F> {
     }
 
     ghost honest = { λ d at caller call number version. honest_answer d at caller call number version };
+
+    ghost formed_stays = { λ d at caller call number version other later formed next.
+        formed_stays d at caller call number version other later next };
 
     ghost are_stale = { λ d core fits. stale_as_defined d core fits };
 

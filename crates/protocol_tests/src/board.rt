@@ -1,6 +1,6 @@
 //! A day of the example board, with a change of policy.
 
-ghost use Rattle.std.specs.Prelude.{◌≡◌, ◌∷◌, [], IfOk};
+ghost use Rattle.std.specs.Prelude.{◌≡◌, ◌<◌, ◌∷◌, [], IfOk};
 ghost use Rattle.example_board.specs.Plain.{IsCall};
 
 use access_vectors::perms::FILE_READ;
@@ -8,7 +8,7 @@ use access_vectors::{Class, Decider, Vector};
 use example_board::{BoardCall, BoardCore, BoardOpening, BoardReply};
 use flask_sid::{Memory, Rows, Sid};
 use managed::Plain;
-use manager_history::{Ack, NotifyFault, Receipt};
+use manager_history::{Ack, Answer, NotifyFault, Receipt};
 use retained_rights::EachBits;
 use std::alloc::Global;
 use std::marker::Model;
@@ -74,6 +74,14 @@ fn one_client(alloc: Global, client: Sid) -> Result<BoardOpening, Memory>
     })
 }
 
+/// What came of a call: a reply, or it was aborted, or memory was wanted.
+#[derive(Clone, Copy, Debug, PartialEq, Eq)]
+enum Came {
+    Did(BoardReply),
+    Aborted,
+    WantedMemory,
+}
+
 /// A board with one client, on one thread.
 #[derive(Drop)]
 struct Day<'d> {
@@ -103,24 +111,29 @@ impl<'d> Day<'d> {
         })
     }
 
-    /// A call of the client, and its reply: none where memory was wanted.
-    fn act(&mut self, alloc: Global, call: BoardCall) -> Option<BoardReply>
+    /// A call of the client, and what came of it.
+    fn act(&mut self, alloc: Global, call: BoardCall) -> Came
         requires ranges { IsCall call }
     {
         match self.board.call(alloc, 0, 0, call) {
-            Ok(reply) => Some(reply),
-            Err(Memory) => None,
+            Ok(Answer::Did(reply)) => Came::Did(reply),
+            Ok(Answer::Aborted) => Came::Aborted,
+            Err(Memory) => Came::WantedMemory,
         }
     }
 
-    /// The client takes a pass.
-    fn begin(&mut self) {
-        self.board.begin(0);
+    /// A holder takes a pass: the client, whose number is 0, or another.
+    fn begin(&mut self, holder: u8)
+        requires { holder < 64 }
+    {
+        self.board.begin(holder);
     }
 
-    /// The client gives its pass back.
-    fn end(&mut self) {
-        self.board.end(0);
+    /// A holder gives its pass back.
+    fn end(&mut self, holder: u8)
+        requires { holder < 64 }
+    {
+        self.board.end(holder);
     }
 
     /// Begins a change to a version.
@@ -137,10 +150,15 @@ impl<'d> Day<'d> {
     fn acknowledge(&mut self) -> Ack {
         self.board.acknowledge()
     }
+
+    /// Tries to acknowledge by force.
+    fn force(&mut self) -> Ack {
+        self.board.force()
+    }
 }
 
 /// Opens slot 0, posts a number and reads it.
-fn morning(day: &mut Day<'_>, alloc: Global) -> [Option<BoardReply>; 3] {
+fn morning(day: &mut Day<'_>, alloc: Global) -> [Came; 3] {
     let mode = Vector::of(3);
     let opened = day.act(alloc, BoardCall::Open { slot: 0, mode });
     let posted = day.act(
@@ -156,12 +174,12 @@ fn morning(day: &mut Day<'_>, alloc: Global) -> [Option<BoardReply>; 3] {
 
 /// Withholds reading while the client holds a pass, and reads under it. The change is not acknowledged before the pass is
 /// given back, nor before the slot follows the new version.
-fn change(day: &mut Day<'_>, alloc: Global) -> (Option<BoardReply>, [Ack; 3], u64) {
-    day.begin();
+fn change(day: &mut Day<'_>, alloc: Global) -> (Came, [Ack; 3], u64) {
+    day.begin(0);
     let _number = day.notify(alloc, 1);
     let held = day.act(alloc, BoardCall::Read { slot: 0 });
     let busy = day.acknowledge();
-    day.end();
+    day.end(0);
     let behind = day.acknowledge();
     let left = day.update(5);
     let done = day.acknowledge();
@@ -169,7 +187,7 @@ fn change(day: &mut Day<'_>, alloc: Global) -> (Option<BoardReply>, [Ack; 3], u6
 }
 
 /// Reads and posts again.
-fn evening(day: &mut Day<'_>, alloc: Global) -> [Option<BoardReply>; 2] {
+fn evening(day: &mut Day<'_>, alloc: Global) -> [Came; 2] {
     let read = day.act(alloc, BoardCall::Read { slot: 0 });
     let posted = day.act(
         alloc,
@@ -182,11 +200,11 @@ fn evening(day: &mut Day<'_>, alloc: Global) -> [Option<BoardReply>; 2] {
 }
 
 /// What the morning's calls answer.
-fn done_done_number() -> [Option<BoardReply>; 3] {
+fn done_done_number() -> [Came; 3] {
     [
-        Some(BoardReply::Done),
-        Some(BoardReply::Done),
-        Some(BoardReply::Number(12)),
+        Came::Did(BoardReply::Done),
+        Came::Did(BoardReply::Done),
+        Came::Did(BoardReply::Number(12)),
     ]
 }
 
@@ -215,9 +233,64 @@ fn a_change_withholds_reading(rt: HostRuntime) -> Result<(), Fail> {
         policy: 1,
     };
     assert_eq!(rt; before, done_done_number());
-    assert_eq!(rt; held, Some(BoardReply::Number(12)));
+    assert_eq!(rt; held, Came::Did(BoardReply::Number(12)));
     assert_eq!(rt; acks, busy_behind_done());
     assert_eq!(rt; left, 0);
-    assert_eq!(rt; after, [Some(denied), Some(BoardReply::Done)]);
+    assert_eq!(rt; after, [Came::Did(denied), Came::Did(BoardReply::Done)]);
+    Ok(())
+}
+
+/// Withholds reading by force while the client holds a pass, reads under it, and allows reading again while another holder has
+/// a pass too, and reads once more. The first change waits for the slot alone, and the second for the other holder alone.
+fn forced_change(day: &mut Day<'_>, alloc: Global) -> ([Ack; 5], [Came; 2]) {
+    day.begin(0);
+    let _number = day.notify(alloc, 1);
+    let behind = day.force();
+    let _left = day.update(5);
+    let done = day.force();
+    let idle = day.force();
+    let first = day.act(alloc, BoardCall::Read { slot: 0 });
+    day.begin(1);
+    let _number = day.notify(alloc, 0);
+    let _left = day.update(5);
+    let busy = day.acknowledge();
+    let second = day.act(alloc, BoardCall::Read { slot: 0 });
+    day.end(1);
+    let again = day.acknowledge();
+    ([behind, done, idle, busy, again], [first, second])
+}
+
+/// What the five tries answer.
+fn behind_done_idle_busy_done() -> [Ack; 5] {
+    let first = Receipt {
+        manager: 0,
+        number: 1,
+    };
+    let second = Receipt {
+        manager: 0,
+        number: 2,
+    };
+    [
+        Ack::Behind { left: 1 },
+        Ack::Done(first),
+        Ack::Idle,
+        Ack::Busy { older: 1 },
+        Ack::Done(second),
+    ]
+}
+
+/// A day on which a change is forced while a pass is held: its calls are aborted, until it is given back.
+#[test]
+fn a_forced_change_aborts_older_calls(rt: HostRuntime) -> Result<(), Fail> {
+    let decider = WithholdingRead;
+    let mut day = Day::new(rt.alloc(), &decider)?;
+    let before = morning(&mut day, rt.alloc());
+    let (acks, under_pass) = forced_change(&mut day, rt.alloc());
+    day.end(0);
+    let after = day.act(rt.alloc(), BoardCall::Read { slot: 0 });
+    assert_eq!(rt; before, done_done_number());
+    assert_eq!(rt; acks, behind_done_idle_busy_done());
+    assert_eq!(rt; under_pass, [Came::Aborted, Came::Aborted]);
+    assert_eq!(rt; after, Came::Did(BoardReply::Number(12)));
     Ok(())
 }

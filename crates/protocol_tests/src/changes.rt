@@ -16,7 +16,7 @@ use std::test::Fail;
 enum Step {
     Before,
     Noticed(u8),
-    Acknowledged(u8),
+    Acknowledged { version: u8, forced: bool },
 }
 
 /// A manager of one change, with no slot and no pass. One that is short wants memory at its first notice.
@@ -38,11 +38,11 @@ impl Managed for Single {
 
     ghost seen = { λ single. record {
       manager = single.manager;
-      phase = elim single.step [ Before ↦ Settled 0 0 | Noticed version ↦ Pending 1 0 version | Acknowledged version ↦ Settled 1 version ];
+      phase = elim single.step [ Before ↦ Settled 0 0 | Noticed version ↦ Pending 1 0 version | Acknowledged version forced ↦ Settled 1 version ];
       history = elim single.step [
         | Before ↦ []
         | Noticed version ↦ Notice 1 version ∷ []
-        | Acknowledged version ↦ Notice 1 version ∷ Acknowledgement 1 ∷ []
+        | Acknowledged version forced ↦ Notice 1 version ∷ Acknowledgement 1 forced ∷ []
       ];
       most = 9;
       versions = 2;
@@ -84,7 +84,25 @@ impl Managed for Single {
             return Ack::Idle;
         };
         self.tries = self.tries.saturating_add(1);
-        self.step = Step::Acknowledged(version);
+        self.step = Step::Acknowledged {
+            version,
+            forced: false,
+        };
+        Ack::Done(Receipt {
+            manager: self.manager,
+            number: 1,
+        })
+    }
+
+    fn force<R: Wait>(&mut self, rt: &R) -> Ack {
+        let Step::Noticed(version) = self.step else {
+            return Ack::Idle;
+        };
+        self.tries = self.tries.saturating_add(1);
+        self.step = Step::Acknowledged {
+            version,
+            forced: true,
+        };
         Ack::Done(Receipt {
             manager: self.manager,
             number: 1,
@@ -150,5 +168,31 @@ fn a_change_goes_on_and_is_complete(rt: HostRuntime) -> Result<(), Fail> {
     let (server, _managers, reached) = all.release();
     assert_eq!(rt; server.pending(), None);
     assert_eq!(rt; reached, 3);
+    Ok(())
+}
+
+/// A change of which the first receipt came by force, and the others without.
+#[test]
+fn a_change_is_complete_with_a_forced_receipt(rt: HostRuntime) -> Result<(), Fail> {
+    let alloc = rt.alloc();
+    let decider = ByVersion;
+    let server = Server::new(&decider, 3, 9);
+    let managers = vec![in alloc;
+        before_change(0, false),
+        before_change(1, true),
+        before_change(2, false),
+    ]?;
+    let mut all = Coordinator::new(server, managers, 0);
+    let mut said = [Said::Kept; 3];
+    assert_eq!(rt; all.force_all(&rt, &mut said), AckAll::Idle);
+    assert_eq!(rt;
+        all.notify_all(&rt, alloc, 1),
+        Err(NotifyAllFault::Memory { reached: 1 })
+    );
+    assert_eq!(rt; all.force_all(&rt, &mut said), AckAll::Waiting);
+    assert_eq!(rt; said, [Said::Kept, Said::Idle, Said::Idle]);
+    assert_eq!(rt; all.notify_all(&rt, alloc, 1), Ok(1));
+    assert_eq!(rt; all.ack_all(&rt, &mut said), AckAll::Complete(1));
+    assert_eq!(rt; said, [Said::Kept, Said::Kept, Said::Kept]);
     Ok(())
 }

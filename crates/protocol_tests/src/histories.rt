@@ -6,8 +6,8 @@ use crate::by_version::ByVersion;
 use access_vectors::perms::FILE_READ;
 use access_vectors::{Asker, Decider, Phase, Plainly, Questions, Steps, ask};
 use flask_sid::{Memory, Sid};
-use manager_history::{Ack, Core, Entry, Keeper, NotifyFault, Passes, Receipt};
-use std::alloc::Global;
+use manager_history::{Ack, Answer, Core, Entry, Keeper, NotifyFault, Passes, Receipt};
+use std::alloc::{AllocError, Global};
 use std::marker::Brand;
 use std::sync::ledger::{Blank, Ledger};
 use std::test::Fail;
@@ -117,6 +117,8 @@ impl Core for Reader {
         ] in
         record { told = All-cons (IsTold d version) q [] refl (All-nil (IsTold d version)); ends = ends q.yes refl } };
 
+    ghost formed_stays = { λ d last caller sid number version other later formed next. next };
+
     ghost are_stale = { λ d reader fits. none_are_stale d File reader.phase (λ place. None) };
 
     ghost are_named = { λ d reader fits. none_named reader.phase };
@@ -181,6 +183,27 @@ fn a_change_runs_from_notice_to_acknowledgement(rt: HostRuntime) -> Result<(), F
     Ok(())
 }
 
+/// The reply of a call, if it was done.
+fn done<R: Drop>(answer: Answer<R>) -> Option<R> {
+    match answer {
+        Answer::Did(reply) => Some(reply),
+        Answer::Aborted => None,
+    }
+}
+
+/// The marks of calls, and the numbers of the other entries.
+fn marks_of(alloc: Global, keeper: &Keeper<'_, Reader, ByVersion>) -> Result<Vec<u32>, AllocError> {
+    let mut marks = Vec::new(alloc);
+    for entry in keeper.entries() {
+        marks.push(match entry {
+            Entry::Op { mark, .. } | Entry::Aborted { mark, .. } => *mark,
+            Entry::Notice { number, .. } | Entry::Ack { number } | Entry::Forced { number } =>
+                *number,
+        })?;
+    }
+    Ok(marks)
+}
+
 #[test]
 fn the_history_is_what_was_done(rt: HostRuntime) -> Result<(), Fail> {
     let alloc = rt.alloc();
@@ -189,17 +212,34 @@ fn the_history_is_what_was_done(rt: HostRuntime) -> Result<(), Fail> {
     let mut keeper = Keeper::new(alloc, settled_reader(sid), 2, &decider);
     let mut before = Plainly::new(&decider, 0);
     let mut after = Plainly::new(&decider, 1);
-    assert_eq!(rt; keeper.call(alloc, 0, 10, sid, 0, &mut before)?, (false, 0));
+    let first = keeper.call(alloc, 0, 10, sid, 0, &mut before)?;
+    assert_eq!(rt; done(first), Some((false, 0)));
     assert_eq!(rt; keeper.notify(alloc, 1, 9), Ok(1));
-    assert_eq!(rt; keeper.call(alloc, 0, 11, sid, 1, &mut after)?, (true, 1));
-    let mut marks = Vec::new(alloc);
-    for entry in keeper.entries() {
-        marks.push(match entry {
-            Entry::Op { mark, .. } => *mark,
-            Entry::Notice { number, .. } | Entry::Ack { number } => *number,
-        })?;
-    }
+    let second = keeper.call(alloc, 0, 11, sid, 1, &mut after)?;
+    assert_eq!(rt; done(second), Some((true, 1)));
+    let marks = marks_of(alloc, &keeper)?;
     assert_eq!(rt; marks.as_slice(), [10, 1, 11].as_slice());
+    Ok(())
+}
+
+#[test]
+fn a_call_below_a_forced_number_is_aborted(rt: HostRuntime) -> Result<(), Fail> {
+    let alloc = rt.alloc();
+    let decider = ByVersion;
+    let sid = Sid::of(5).ok_or("a number in range")?;
+    let mut keeper = Keeper::new(alloc, settled_reader(sid), 2, &decider);
+    let mut asker = Plainly::new(&decider, 0);
+    assert_eq!(rt; keeper.force(), Ack::Idle);
+    assert_eq!(rt; keeper.notify(alloc, 1, 9), Ok(1));
+    let receipt = Receipt {
+        manager: 2,
+        number: 1,
+    };
+    assert_eq!(rt; keeper.force(), Ack::Done(receipt));
+    let answer = keeper.call(alloc, 0, 12, sid, 0, &mut asker)?;
+    assert_eq!(rt; done(answer), None);
+    let marks = marks_of(alloc, &keeper)?;
+    assert_eq!(rt; marks.as_slice(), [1, 1, 12].as_slice());
     Ok(())
 }
 
@@ -211,6 +251,8 @@ fn older_passes_are_counted(rt: HostRuntime) {
     assert_eq!(rt; passes.older(3), 0);
     assert_eq!(rt; passes.older(4), 1);
     assert_eq!(rt; passes.older(5), 2);
+    assert_eq!(rt; passes.at(4), 1);
+    assert_eq!(rt; passes.at(5), 0);
     assert_eq!(rt; passes.held(0), Some(3));
     passes.leave(0);
     assert_eq!(rt; passes.held(0), None);

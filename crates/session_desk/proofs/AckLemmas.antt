@@ -2,7 +2,6 @@
 use Rattle.std.proofs.Common.{◌≡◌, ℕ, Bool, true, false, not, List, [], ◌∷◌, length, Some, refl, sym, ap, ◌∙◌, arith}
 use Rattle.std.specs.Prelude.{◌&&◌, slice_get, nat_lt, ◌||◌, if◌then◌else◌}
 use Rattle.std.specs.List.{list_all}
-use Rattle.std.proofs.lemmas.Bool.Decides.{nat_tests}
 use Rattle.access_vectors.specs.Decisions.{Decisions}
 use Rattle.access_vectors.specs.Phases.{number_of, is_pending, acknowledged}
 use Rattle.access_vectors.specs.declared.class.Class.TheVariants as class
@@ -11,7 +10,7 @@ use Rattle.access_vectors.specs.declared.phase.Phase.TheVariants.{Settled, Pendi
 use Rattle.manager_history.specs.Kept.{ack_answer, is_done}
 use Rattle.manager_history.specs.declared.answers.Ack.{Ack}
 use Rattle.manager_history.specs.declared.answers.Ack.TheVariants as acks
-use Rattle.managed.specs.Posts.{Post, stale_on, older_on, settled_if}
+use Rattle.managed.specs.Posts.{Post, stale_on, settled_if}
 use Rattle.security_server.specs.Numbering.{is_in}
 use Rattle.change_protocol.specs.Changes as changes
 use Rattle.change_protocol.specs.Changes.{Led, IsLed, IsPlaced, AreAll, IsAskedUnless, ack_all_answer, phase_after, phase_at, is_kept}
@@ -29,7 +28,7 @@ use Rattle.port_calls.specs.Plain as port
 use Rattle.port_calls.specs.States.{PortState}
 use Rattle.port_store.specs.Stores as port_store
 use Rattle.session_desk.specs.declared.one_manager.OneManager.{OneManager}
-use Rattle.session_desk.specs.Days.{Day, pending_at, ack_on, said_of, all_said, ack_all_of, is_complete, counted_change, day_acknowledged, file_ack, process_ack, port_ack}
+use Rattle.session_desk.specs.Days.{Day, pending_at, waits_on, ack_on, said_of, all_saying, standing_by, is_complete, counted_change, day_settled, file_ack, process_ack, port_ack}
 use Rattle.session_desk.specs.One.{Files, Processes, Ports, phase, place_of, decider_of, seen, file_opening, process_opening, port_opening}
 use Rattle.session_desk.specs.Standings.{IsSession, is_whole, day_of}
 use Rattle.session_desk.proofs.AdminLemmas.{acknowledged_post, acknowledged_answer, phase_as}
@@ -64,26 +63,26 @@ pending_if (Pending number old new) manager older stale =
           ≡ not (is_kept (said_of (if b then acks.Behind stale else acks.Done (record { manager = manager; number = number }))))) [ true ↦ refl | false ↦ refl ]
     ]
 
-pending_after : {State : Type 0} (post : Post State) (manager : ℕ) (stale : List ℕ)
-    → is_pending (settled_if post (is_done (ack_on post manager stale))).phase ≡ not (is_kept (said_of (ack_on post manager stale)))
-pending_after post manager stale =
-    ap is_pending (sym (phase_as post (is_done (ack_on post manager stale)))) ∙ pending_if post.phase manager (older_on post) (length stale)
+pending_after : {State : Type 0} (forced : Bool) (post : Post State) (manager : ℕ) (stale : List ℕ)
+    → is_pending (settled_if post (is_done (ack_on forced post manager stale))).phase ≡ not (is_kept (said_of (ack_on forced post manager stale)))
+pending_after forced post manager stale =
+    ap is_pending (sym (phase_as post (is_done (ack_on forced post manager stale)))) ∙ pending_if post.phase manager (waits_on forced post) (length stale)
 
-module _ {D : Type 0} (decides : D → Decisions) where
+module _ {D : Type 0} (decides : D → Decisions) (forced : Bool) where
   -- the manager of files
   abbrev ack_files : D → Post FileState → ℕ → Ack
-  ack_files decider post place = ack_on post place (stale_on (decides decider) class.File file.pair_of post)
+  ack_files decider post place = ack_on forced post place (stale_on (decides decider) class.File file.pair_of post)
 
   asked_files : (was now : OneManager D) (post : Post FileState) (decider : D) (receipts : List Bool) (place number old new : ℕ) (said : Said) → AreFiles was now post → decider_of was ≡ decider
       → (seen decides was).manager ≡ place → post.phase ≡ (if is_in receipts place then Settled number new else Pending number old new)
-      → IsAskedUnless (seen decides) (is_in receipts place) was now said
+      → IsAskedUnless (seen decides) forced (is_in receipts place) was now said
       → (place_of now ≡ Files (settled_if post (is_done (ack_files decider post place)))) × (said ≡ said_of (ack_files decider post place)) × (decider_of now ≡ decider)
   asked_files was now post decider receipts place number old new said are at numbered stands asked =
       let by = ap decider_of (sym are.was_is) ∙ at in
       let got = from (is_in receipts place) stands asked in
       (got.0, got.1, rw are.now_is (are.same.decider ∙ by))
     where
-      from : (b : Bool) → post.phase ≡ (if b then Settled number new else Pending number old new) → IsAskedUnless (seen decides) b was now said
+      from : (b : Bool) → post.phase ≡ (if b then Settled number new else Pending number old new) → IsAskedUnless (seen decides) forced b was now said
           → (place_of now ≡ Files (settled_if post (is_done (ack_files decider post place)))) × (said ≡ said_of (ack_files decider post place))
       from true stands asked =
           let idle : ack_files decider post place ≡ acks.Idle = rw stands refl in
@@ -93,27 +92,27 @@ module _ {D : Type 0} (decides : D → Decisions) where
           let here = rw (are.was_is, are.now_is) at asked.acknowledged in
           let manager : are.old.keeper.manager ≡ place = rw are.was_is at numbered in
           let ack_is : asked.ack ≡ ack_files decider post place =
-          rw (← are.post_is, ← by, ← manager) (acknowledged_answer decides class.File file.pair_of file_opening file_store.state_of file_store.follows are.old are.new are.same asked.ack here) in
+          rw (← are.post_is, ← by, ← manager) (acknowledged_answer decides class.File file.pair_of file_opening file_store.state_of file_store.follows are.old are.new are.same forced asked.ack here) in
           let stood : place_of now ≡ Files (settled_if post (is_done asked.ack)) =
-          rw (are.now_is, ← are.post_is) (ap Files (acknowledged_post decides class.File file.pair_of file_opening file_store.state_of file_store.follows are.old are.new are.same asked.ack here)) in (
+          rw (are.now_is, ← are.post_is) (ap Files (acknowledged_post decides class.File file.pair_of file_opening file_store.state_of file_store.follows are.old are.new are.same forced asked.ack here)) in (
             stood ∙ ap (λ a. Files (settled_if post (is_done a))) ack_is,
-            asked.said_is ∙ ap changes.said_of ack_is ∙ said_at post.phase place (older_on post) _ (ap is_pending stands),
+            asked.said_is ∙ ap changes.said_of ack_is ∙ said_at post.phase place (waits_on forced post) _ (ap is_pending stands),
           )
 
   -- the manager of processes
   abbrev ack_processes : D → Post ProcessState → ℕ → Ack
-  ack_processes decider post place = ack_on post place (stale_on (decides decider) class.Process process.pair_of post)
+  ack_processes decider post place = ack_on forced post place (stale_on (decides decider) class.Process process.pair_of post)
 
   asked_processes : (was now : OneManager D) (post : Post ProcessState) (decider : D) (receipts : List Bool) (place number old new : ℕ) (said : Said) → AreProcesses was now post → decider_of was ≡ decider
       → (seen decides was).manager ≡ place → post.phase ≡ (if is_in receipts place then Settled number new else Pending number old new)
-      → IsAskedUnless (seen decides) (is_in receipts place) was now said
+      → IsAskedUnless (seen decides) forced (is_in receipts place) was now said
       → (place_of now ≡ Processes (settled_if post (is_done (ack_processes decider post place)))) × (said ≡ said_of (ack_processes decider post place)) × (decider_of now ≡ decider)
   asked_processes was now post decider receipts place number old new said are at numbered stands asked =
       let by = ap decider_of (sym are.was_is) ∙ at in
       let got = from (is_in receipts place) stands asked in
       (got.0, got.1, rw are.now_is (are.same.decider ∙ by))
     where
-      from : (b : Bool) → post.phase ≡ (if b then Settled number new else Pending number old new) → IsAskedUnless (seen decides) b was now said
+      from : (b : Bool) → post.phase ≡ (if b then Settled number new else Pending number old new) → IsAskedUnless (seen decides) forced b was now said
           → (place_of now ≡ Processes (settled_if post (is_done (ack_processes decider post place)))) × (said ≡ said_of (ack_processes decider post place))
       from true stands asked =
           let idle : ack_processes decider post place ≡ acks.Idle = rw stands refl in
@@ -123,27 +122,27 @@ module _ {D : Type 0} (decides : D → Decisions) where
           let here = rw (are.was_is, are.now_is) at asked.acknowledged in
           let manager : are.old.keeper.manager ≡ place = rw are.was_is at numbered in
           let ack_is : asked.ack ≡ ack_processes decider post place =
-          rw (← are.post_is, ← by, ← manager) (acknowledged_answer decides class.Process process.pair_of process_opening process_store.state_of process_store.follows are.old are.new are.same asked.ack here) in
+          rw (← are.post_is, ← by, ← manager) (acknowledged_answer decides class.Process process.pair_of process_opening process_store.state_of process_store.follows are.old are.new are.same forced asked.ack here) in
           let stood : place_of now ≡ Processes (settled_if post (is_done asked.ack)) =
-          rw (are.now_is, ← are.post_is) (ap Processes (acknowledged_post decides class.Process process.pair_of process_opening process_store.state_of process_store.follows are.old are.new are.same asked.ack here)) in (
+          rw (are.now_is, ← are.post_is) (ap Processes (acknowledged_post decides class.Process process.pair_of process_opening process_store.state_of process_store.follows are.old are.new are.same forced asked.ack here)) in (
             stood ∙ ap (λ a. Processes (settled_if post (is_done a))) ack_is,
-            asked.said_is ∙ ap changes.said_of ack_is ∙ said_at post.phase place (older_on post) _ (ap is_pending stands),
+            asked.said_is ∙ ap changes.said_of ack_is ∙ said_at post.phase place (waits_on forced post) _ (ap is_pending stands),
           )
 
   -- the manager of ports
   abbrev ack_ports : D → Post PortState → ℕ → Ack
-  ack_ports decider post place = ack_on post place (stale_on (decides decider) class.Port port.pair_of post)
+  ack_ports decider post place = ack_on forced post place (stale_on (decides decider) class.Port port.pair_of post)
 
   asked_ports : (was now : OneManager D) (post : Post PortState) (decider : D) (receipts : List Bool) (place number old new : ℕ) (said : Said) → ArePorts was now post → decider_of was ≡ decider
       → (seen decides was).manager ≡ place → post.phase ≡ (if is_in receipts place then Settled number new else Pending number old new)
-      → IsAskedUnless (seen decides) (is_in receipts place) was now said
+      → IsAskedUnless (seen decides) forced (is_in receipts place) was now said
       → (place_of now ≡ Ports (settled_if post (is_done (ack_ports decider post place)))) × (said ≡ said_of (ack_ports decider post place)) × (decider_of now ≡ decider)
   asked_ports was now post decider receipts place number old new said are at numbered stands asked =
       let by = ap decider_of (sym are.was_is) ∙ at in
       let got = from (is_in receipts place) stands asked in
       (got.0, got.1, rw are.now_is (are.same.decider ∙ by))
     where
-      from : (b : Bool) → post.phase ≡ (if b then Settled number new else Pending number old new) → IsAskedUnless (seen decides) b was now said
+      from : (b : Bool) → post.phase ≡ (if b then Settled number new else Pending number old new) → IsAskedUnless (seen decides) forced b was now said
           → (place_of now ≡ Ports (settled_if post (is_done (ack_ports decider post place)))) × (said ≡ said_of (ack_ports decider post place))
       from true stands asked =
           let idle : ack_ports decider post place ≡ acks.Idle = rw stands refl in
@@ -153,11 +152,11 @@ module _ {D : Type 0} (decides : D → Decisions) where
           let here = rw (are.was_is, are.now_is) at asked.acknowledged in
           let manager : are.old.keeper.manager ≡ place = rw are.was_is at numbered in
           let ack_is : asked.ack ≡ ack_ports decider post place =
-          rw (← are.post_is, ← by, ← manager) (acknowledged_answer decides class.Port port.pair_of port_opening port_store.state_of port_store.follows are.old are.new are.same asked.ack here) in
+          rw (← are.post_is, ← by, ← manager) (acknowledged_answer decides class.Port port.pair_of port_opening port_store.state_of port_store.follows are.old are.new are.same forced asked.ack here) in
           let stood : place_of now ≡ Ports (settled_if post (is_done asked.ack)) =
-          rw (are.now_is, ← are.post_is) (ap Ports (acknowledged_post decides class.Port port.pair_of port_opening port_store.state_of port_store.follows are.old are.new are.same asked.ack here)) in (
+          rw (are.now_is, ← are.post_is) (ap Ports (acknowledged_post decides class.Port port.pair_of port_opening port_store.state_of port_store.follows are.old are.new are.same forced asked.ack here)) in (
             stood ∙ ap (λ a. Ports (settled_if post (is_done a))) ack_is,
-            asked.said_is ∙ ap changes.said_of ack_is ∙ said_at post.phase place (older_on post) _ (ap is_pending stands),
+            asked.said_is ∙ ap changes.said_of ack_is ∙ said_at post.phase place (waits_on forced post) _ (ap is_pending stands),
           )
 
   -- the list of what they say has one for each
@@ -180,7 +179,7 @@ module _ {D : Type 0} (decides : D → Decisions) where
     pub idle : is_pending led.server.phase ≡ false → after ≡ led
     pub idle_said : is_pending led.server.phase ≡ false → said ≡ saying.Kept ∷ saying.Kept ∷ saying.Kept ∷ []
     pub asked : is_pending led.server.phase ≡ true → (place : ℕ)
-        → AreAll (IsAskedUnless (seen decides) (is_in led.server.receipts place)) (slice_get led.managers place) (slice_get after.managers place) (slice_get said place)
+        → AreAll (IsAskedUnless (seen decides) forced (is_in led.server.receipts place)) (slice_get led.managers place) (slice_get after.managers place) (slice_get said place)
     pub was_led : IsLed decides (seen decides) led
     pub phase_is : after.server.phase ≡ phase_after all led.server.phase
     pub decider : after.server.decider ≡ led.server.decider
@@ -190,9 +189,9 @@ module _ {D : Type 0} (decides : D → Decisions) where
   -- the session then
   pub record IsAckedSession (led after : Led D (OneManager D)) (said : List Said) (all : AckAll) (calls denied changes : ℕ) : Type 0 where
     pub session : IsSession after
-    pub all_is : all ≡ ack_all_of (decides led.server.decider) (day_of led.managers calls denied changes)
-    pub said_is : said ≡ all_said (decides led.server.decider) (day_of led.managers calls denied changes)
-    pub day : day_of after.managers calls denied (counted_change (is_complete all) changes) ≡ day_acknowledged (decides led.server.decider) (day_of led.managers calls denied changes)
+    pub all_is : all ≡ standing_by forced (decides led.server.decider) (day_of led.managers calls denied changes)
+    pub said_is : said ≡ all_saying forced (decides led.server.decider) (day_of led.managers calls denied changes)
+    pub day : day_of after.managers calls denied (counted_change (is_complete all) changes) ≡ day_settled forced (decides led.server.decider) (day_of led.managers calls denied changes)
     pub whole : is_whole after ≡ true
 
   -- by where it stood: a triple of posts
@@ -215,43 +214,43 @@ module _ {D : Type 0} (decides : D → Decisions) where
       let port_at : s.ports.phase ≡ (if is_in led.server.receipts 2 then Settled number new else Pending number old new) =
       sym (ap phase s.ports_are) ∙ sym (seen_phase decides s.port) ∙ port_placed.phase ∙ rw (at, reached) refl in
       let each = three_said led.managers after.managers s.file t.file s.process t.process s.port t.port said
-      (λ place. IsAskedUnless (seen decides) (is_in led.server.receipts place)) s.managers_are t.are (told.asked (ap is_pending at)) in
+      (λ place. IsAskedUnless (seen decides) forced (is_in led.server.receipts place)) s.managers_are t.are (told.asked (ap is_pending at)) in
       let f = asked_files s.file t.file s.files led.server.decider led.server.receipts 0 number old new each.0 t.files s.file_decider file_placed.numbered file_at each.4 in
       let p = asked_processes s.process t.process s.processes led.server.decider led.server.receipts 1 number old new each.1 t.processes s.process_decider process_placed.numbered process_at each.5 in
       let q = asked_ports s.port t.port s.ports led.server.decider led.server.receipts 2 number old new each.2 t.ports s.port_decider port_placed.numbered port_at each.6 in
       let d = decides led.server.decider in
       let day = day_with led s calls denied changes in
       let before : day_of led.managers calls denied changes ≡ day = day_is led s calls denied changes in
-      let said_here : said ≡ all_said d day = rw (each.3, f.1, p.1, q.1) refl in
+      let said_here : said ≡ all_saying forced d day = rw (each.3, f.1, p.1, q.1) refl in
       let changing : pending_at s.files.phase s.processes.phase s.ports.phase ≡ true = sym (s.changing whole) ∙ ap is_pending at in
       let newest : number_of s.files.phase ≡ number = rw s.files_are at (number_at decides _ led.server led.reached 0 number old new s.file at (omega (arith, reached)) file_placed) in
-      let answer : all ≡ (if list_all is_kept (all_said d day) then acking.Complete number else acking.Waiting) = rw (at, said_here) at told.answer in
-      let all_here : all ≡ ack_all_of d day = answer ∙ rw (changing, newest) refl in
-      let pending : pending_at (settled_if s.files (is_done (file_ack d day))).phase (settled_if s.processes (is_done (process_ack d day))).phase (settled_if s.ports (is_done (port_ack d day))).phase
-      ≡ not (list_all is_kept (all_said d day)) =
-      rw (pending_after s.files 0 _, pending_after s.processes 1 _, pending_after s.ports 2 _) (none_back (is_kept (said_of (file_ack d day))) (is_kept (said_of (process_ack d day))) (is_kept (said_of (port_ack d day)))) in
+      let answer : all ≡ (if list_all is_kept (all_saying forced d day) then acking.Complete number else acking.Waiting) = rw (at, said_here) at told.answer in
+      let all_here : all ≡ standing_by forced d day = answer ∙ rw (changing, newest) refl in
+      let pending : pending_at (settled_if s.files (is_done (file_ack forced d day))).phase (settled_if s.processes (is_done (process_ack forced d day))).phase (settled_if s.ports (is_done (port_ack forced d day))).phase
+      ≡ not (list_all is_kept (all_saying forced d day)) =
+      rw (pending_after forced s.files 0 _, pending_after forced s.processes 1 _, pending_after forced s.ports 2 _) (none_back (is_kept (said_of (file_ack forced d day))) (is_kept (said_of (process_ack forced d day))) (is_kept (said_of (port_ack forced d day)))) in
       let session : IsSession after = record {
         file = t.file;
         process = t.process;
         port = t.port;
         managers_are = t.are;
-        files = settled_if s.files (is_done (file_ack d day));
+        files = settled_if s.files (is_done (file_ack forced d day));
         files_are = f.0;
-        processes = settled_if s.processes (is_done (process_ack d day));
+        processes = settled_if s.processes (is_done (process_ack forced d day));
         processes_are = p.0;
-        ports = settled_if s.ports (is_done (port_ack d day));
+        ports = settled_if s.ports (is_done (port_ack forced d day));
         ports_are = q.0;
         file_decider = f.2 ∙ sym told.decider;
         process_decider = p.2 ∙ sym told.decider;
         port_decider = q.2 ∙ sym told.decider;
         most = told.most ∙ s.most;
-        changing = λ _. ap is_pending (told.phase_is ∙ rw (answer, at) (phase_of (list_all is_kept (all_said d day)))) ∙ pending_of (list_all is_kept (all_said d day)) ∙ sym pending;
+        changing = λ _. ap is_pending (told.phase_is ∙ rw (answer, at) (phase_of (list_all is_kept (all_saying forced d day)))) ∙ pending_of (list_all is_kept (all_saying forced d day)) ∙ sym pending;
       } in
       record {
         session = session;
-        all_is = all_here ∙ sym (ap (ack_all_of d) before);
-        said_is = said_here ∙ sym (ap (all_said d) before);
-        day = day_is after session calls denied (counted_change (is_complete all) changes) ∙ rw all_here (sym (ap (day_acknowledged d) before));
+        all_is = all_here ∙ sym (ap (standing_by forced d) before);
+        said_is = said_here ∙ sym (ap (all_saying forced d) before);
+        day = day_is after session calls denied (counted_change (is_complete all) changes) ∙ rw all_here (sym (ap (day_settled forced d) before));
         whole = rw (told.reached, reached) (either (is_pending after.server.phase));
       }
     where
@@ -285,9 +284,9 @@ module _ {D : Type 0} (decides : D → Decisions) where
       let answer : all ≡ acking.Idle = told.answer ∙ rw at refl in
       record {
         session = rw same s;
-        all_is = answer ∙ sym (ap (ack_all_of d) before ∙ rw (settled.0, settled.1, settled.2) refl);
-        said_is = told.idle_said (ap is_pending at) ∙ sym (ap (all_said d) before ∙ rw (settled.0, settled.1, settled.2) refl);
-        day = rw (same, answer) (before ∙ sym (ap (day_acknowledged d) before ∙ rw (settled.0, settled.1, settled.2) refl));
+        all_is = answer ∙ sym (ap (standing_by forced d) before ∙ rw (settled.0, settled.1, settled.2) refl);
+        said_is = told.idle_said (ap is_pending at) ∙ sym (ap (all_saying forced d) before ∙ rw (settled.0, settled.1, settled.2) refl);
+        day = rw (same, answer) (before ∙ sym (ap (day_settled forced d) before ∙ rw (settled.0, settled.1, settled.2) refl));
         whole = rw (same, at) refl;
       }
 

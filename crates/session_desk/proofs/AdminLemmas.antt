@@ -11,7 +11,7 @@ use Rattle.access_vectors.specs.declared.phase.Phase.TheVariants.{Settled, Pendi
 use Rattle.manager_history.specs.Kept.{ack_answer, is_done}
 use Rattle.manager_history.specs.declared.answers.Ack.{Ack}
 use Rattle.managed.specs.Posts.{Post, Stood, post_of, stale_on, older_on, notified, updated, settled_if}
-use Rattle.managed.specs.Seen.{Seen, IsNotified, IsUpdated, IsAcknowledged, IsTriedWhere, settled_follows}
+use Rattle.managed.specs.Seen.{Seen, IsNotified, IsUpdated, IsAcknowledged, IsTriedWhere, answer_of, settled_follows}
 use Rattle.managed.specs.Administered.{seen_of, IsSameBesidesChange}
 
 -- two that are there are the same where what is there is
@@ -39,11 +39,15 @@ held_as post false = refl
 held_as post true = refl
 
 -- an acknowledgement answers by what it shows, which is what there is
-answered_by : (phase : Phase) (manager older stale : ℕ) (old new : Seen) (done : Bool) → old.phase ≡ phase → old.older ≡ Some older
+answered_by : (forced : Bool) (phase : Phase) (manager older stale : ℕ) (old new : Seen) (done : Bool) → old.phase ≡ phase → old.older ≡ Some older
     → (found : List ℕ) → old.stale ≡ Some found → length found ≡ stale
-    → IsTriedWhere (is_pending phase) old new done → ack_answer phase manager new.shown.older new.shown.found ≡ ack_answer phase manager older stale
-answered_by (Settled number version) manager older stale old new done at older_is found found_is long tried = refl
-answered_by (Pending number first second) manager older stale old new done at older_is found found_is long tried =
+    → IsTriedWhere (is_pending phase) forced old new done → answer_of forced phase manager new.shown ≡ ack_answer phase manager (if forced then 0 else older) stale
+answered_by false (Settled number version) manager older stale old new done at older_is found found_is long tried = refl
+answered_by true (Settled number version) manager older stale old new done at older_is found found_is long tried = refl
+answered_by true (Pending number first second) manager older stale old new done at older_is found found_is long tried =
+    let counted : new.shown.found ≡ length found = rw found_is at tried.found_shown in
+    ap (ack_answer (Pending number first second) manager 0) (counted ∙ long)
+answered_by false (Pending number first second) manager older stale old new done at older_is found found_is long tried =
     let shown : new.shown.older ≡ older = rw older_is at tried.older_shown in
     let counted : new.shown.found ≡ length found = rw found_is at tried.found_shown in
     ap (λ n. ack_answer (Pending number first second) manager n new.shown.found) shown ∙ ap (ack_answer (Pending number first second) manager older) (counted ∙ long)
@@ -79,12 +83,13 @@ module _ {Core Decider C R State : Type 0} (decides : Decider → Decisions) (cl
       told.left_is ∙ told.left_shown ∙ omega (arith, length-drop most stale, found)
 
   -- an acknowledgement
-  pub acknowledged_post : (said : Ack) → IsAcknowledged (seen old) (seen new) said → post new ≡ settled_if (post old) (is_done said)
-  acknowledged_post said told =
+  pub acknowledged_post : (forced : Bool) (said : Ack) → IsAcknowledged forced (seen old) (seen new) said → post new ≡ settled_if (post old) (is_done said)
+  acknowledged_post forced said told =
       let done = is_done said in
       same_post (post new) (settled_if (post old) done) (same.state_is ∙ sym (state_as (post old) done))
       (some_is _ _ (told.follows ∙ settled_as (post old) done)) (told.phase ∙ phase_as (post old) done) (same.held ∙ sym (held_as (post old) done))
 
-  pub acknowledged_answer : (said : Ack) → IsAcknowledged (seen old) (seen new) said → said ≡ ack_answer old.keeper.phase old.keeper.manager (older_on (post old)) (length stale)
-  acknowledged_answer said told =
-      told.answer ∙ answered_by old.keeper.phase old.keeper.manager (older_on (post old)) (length stale) (seen old) (seen new) (is_done said) refl refl stale refl refl told.tried
+  pub acknowledged_answer : (forced : Bool) (said : Ack) → IsAcknowledged forced (seen old) (seen new) said
+      → said ≡ ack_answer old.keeper.phase old.keeper.manager (if forced then 0 else older_on (post old)) (length stale)
+  acknowledged_answer forced said told =
+      told.answer ∙ answered_by forced old.keeper.phase old.keeper.manager (older_on (post old)) (length stale) (seen old) (seen new) (is_done said) refl refl stale refl refl told.tried

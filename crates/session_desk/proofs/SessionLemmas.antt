@@ -3,6 +3,7 @@ use Rattle.std.proofs.Common.{◌≡◌, ◌+◌, ◌≤◌, arith, ℕ, List, O
 use Rattle.std.specs.Prelude.{slice_get, slice_set}
 use Rattle.access_vectors.specs.Decisions.{Decisions}
 use Rattle.flask_sid.specs.declared.memory.Memory.{Memory}
+use Rattle.manager_history.specs.declared.answers.Answer.{Answer}
 use Rattle.managed.specs.Posts.{Post}
 use Rattle.security_server.specs.Numbering.{Kept}
 use Rattle.change_protocol.specs.Changes.{Led, HasServed}
@@ -118,7 +119,7 @@ module _ {D : Type 0} (decides : D → Decisions) where
   same_kept : (was now : OneManager D) → now ≡ was → IsKept decides was now
   same_kept was now same = record { decider = ap decider_of same; opening = ap opening_of same; served = stayed_seen decides was now same }
 
-  pub done_kept : (client : ℕ) (was now : OneManager D) (done : Act) (said : Result (Option Reply) Memory) → HasDone decides client was done now said → IsKept decides was now
+  pub done_kept : (client : ℕ) (was now : OneManager D) (done : Act) (said : Result (Option (Answer Reply)) Memory) → HasDone decides client was done now said → IsKept decides was now
   done_kept client was now (act.Call mark asks) (Ok (Some got)) did = did.kept
   done_kept client was now (act.Call mark asks) (Ok None) did = absurd did
   done_kept client was now (act.Call mark asks) (Err memory) did = same_kept was now did
@@ -130,7 +131,7 @@ module _ {D : Type 0} (decides : D → Decisions) where
   done_kept client was now act.End (Err memory) did = absurd did
 
   -- after a client's act
-  pub served_session : (led after : Led D (OneManager D)) (of : Manager) (number client : ℕ) (done : Act) (said : Result (Option Reply) Memory) → IsSession led → number ≡ number_of of
+  pub served_session : (led after : Led D (OneManager D)) (of : Manager) (number client : ℕ) (done : Act) (said : Result (Option (Answer Reply)) Memory) → IsSession led → number ≡ number_of of
       → HasServed (λ was now. HasDone decides client was done now said) led.managers after.managers number
       → after.server ≡ led.server → after.reached ≡ led.reached → IsSession after
   served_session led after of number client done said s at served server reached =

@@ -30,7 +30,7 @@ use Rattle.change_protocol.specs.declared.answers.Said.{Said}
 use Rattle.change_protocol.specs.declared.answers.Said.TheVariants as saying
 use Rattle.session_forms.specs.declared.run_forms.Manager.{Manager}
 use Rattle.session_forms.specs.declared.run_forms.Manager.TheVariants as manager
-use Rattle.session_desk.specs.One.{Place, Files, Processes, Ports, Told, told, denial_of, after_call, after_begin, after_end, acting}
+use Rattle.session_desk.specs.One.{Place, Files, Processes, Ports, Told, told, denial_in, after_call, after_begin, after_end, acting}
 use Rattle.session_desk.specs.declared.acting.Call.{Call}
 use Rattle.session_desk.specs.declared.acting.Call.TheVariants as call
 use Rattle.session_desk.specs.declared.acting.Reply.TheVariants as reply
@@ -88,11 +88,11 @@ manager_of (call.File asks) = manager.File
 manager_of (call.Process asks) = manager.Process
 manager_of (call.Port asks) = manager.Port
 
--- what a client's call gets of its plain manager
+-- what a client's call gets
 abbrev pub told_to : Decisions → Day → ℕ → Call → Told
-told_to d day client (call.File asks) = told reply.File (posts.answer_on file.answer d day.files client asks)
-told_to d day client (call.Process asks) = told reply.Process (posts.answer_on process.answer d day.processes client asks)
-told_to d day client (call.Port asks) = told reply.Port (posts.answer_on port.answer d day.ports client asks)
+told_to d day client (call.File asks) = told reply.File file.answer d day.files client asks
+told_to d day client (call.Process asks) = told reply.Process process.answer d day.processes client asks
+told_to d day client (call.Port asks) = told reply.Port port.answer d day.ports client asks
 
 -- one call more, which is denied where its reply is a denial
 abbrev pub counted_call : Option Denial → Day → Day
@@ -108,7 +108,7 @@ counted_call denial day = record {
 -- after a client's call
 abbrev pub day_called : Decisions → Day → ℕ → Call → Day
 day_called d day client asks =
-    counted_call (denial_of (told_to d day client asks).reply) (day_with day (after_call d (place_in day (manager_of asks)) client asks))
+    counted_call (denial_in (told_to d day client asks).answer) (day_with day (after_call d (place_in day (manager_of asks)) client asks))
 
 -- the policy number under which a client acts on a manager
 abbrev pub acting_on : Day → ℕ → Manager → ℕ
@@ -161,19 +161,23 @@ abbrev pub left_on : Decisions → Day → ℕ → List ℕ
 left_on d day most =
     length (drop most (stale_files d day)) ∷ length (drop most (stale_processes d day)) ∷ length (drop most (stale_ports d day)) ∷ []
 
--- what a manager says to the question whether it acknowledges, by its stale slots: one that has acknowledged the change keeps
--- saying so
-abbrev pub ack_on : {State : Type 0} → Post State → ℕ → List ℕ → Ack
-ack_on post number stale = ack_answer post.phase number (posts.older_on post) (length stale)
+-- how many passes a manager waits for: those of the settled number, or none where it is forced
+abbrev pub waits_on : {State : Type 0} → Bool → Post State → ℕ
+waits_on forced post = if forced then 0 else posts.older_on post
 
-abbrev pub file_ack : Decisions → Day → Ack
-file_ack d day = ack_on day.files 0 (stale_files d day)
+-- what a manager says to the question whether it acknowledges, or where it is forced to, by its stale slots: one that has
+-- acknowledged the change keeps saying so
+abbrev pub ack_on : {State : Type 0} → Bool → Post State → ℕ → List ℕ → Ack
+ack_on forced post number stale = ack_answer post.phase number (waits_on forced post) (length stale)
 
-abbrev pub process_ack : Decisions → Day → Ack
-process_ack d day = ack_on day.processes 1 (stale_processes d day)
+abbrev pub file_ack : Bool → Decisions → Day → Ack
+file_ack forced d day = ack_on forced day.files 0 (stale_files d day)
 
-abbrev pub port_ack : Decisions → Day → Ack
-port_ack d day = ack_on day.ports 2 (stale_ports d day)
+abbrev pub process_ack : Bool → Decisions → Day → Ack
+process_ack forced d day = ack_on forced day.processes 1 (stale_processes d day)
+
+abbrev pub port_ack : Bool → Decisions → Day → Ack
+port_ack forced d day = ack_on forced day.ports 2 (stale_ports d day)
 
 abbrev pub said_of : Ack → Said
 said_of (acks.Busy older) = saying.Busy older
@@ -181,13 +185,13 @@ said_of (acks.Behind left) = saying.Behind left
 said_of other = saying.Kept
 
 -- what the three say
-abbrev pub all_said : Decisions → Day → List Said
-all_said d day = said_of (file_ack d day) ∷ said_of (process_ack d day) ∷ said_of (port_ack d day) ∷ []
+abbrev pub all_saying : Bool → Decisions → Day → List Said
+all_saying forced d day = said_of (file_ack forced d day) ∷ said_of (process_ack forced d day) ∷ said_of (port_ack forced d day) ∷ []
 
 -- how the change stands then: none is pending, it is complete, or a manager keeps it back
-abbrev pub ack_all_of : Decisions → Day → AckAll
-ack_all_of d day =
-    if is_changing day then (if list_all is_kept (all_said d day) then acking.Complete (number_of day.files.phase) else acking.Waiting)
+abbrev pub standing_by : Bool → Decisions → Day → AckAll
+standing_by forced d day =
+    if is_changing day then (if list_all is_kept (all_saying forced d day) then acking.Complete (number_of day.files.phase) else acking.Waiting)
     else acking.Idle
 
 abbrev pub is_complete : AckAll → Bool
@@ -199,13 +203,33 @@ abbrev pub counted_change : Bool → ℕ → ℕ
 counted_change false changes = changes
 counted_change true changes = changes + 1
 
--- after an acknowledgement: each manager for which it is done has settled
-abbrev pub day_acknowledged : Decisions → Day → Day
-day_acknowledged d day = record {
-  files = posts.settled_if day.files (is_done (file_ack d day));
-  processes = posts.settled_if day.processes (is_done (process_ack d day));
-  ports = posts.settled_if day.ports (is_done (port_ack d day));
+-- after that: each manager for which it is done has settled
+abbrev pub day_settled : Bool → Decisions → Day → Day
+day_settled forced d day = record {
+  files = posts.settled_if day.files (is_done (file_ack forced d day));
+  processes = posts.settled_if day.processes (is_done (process_ack forced d day));
+  ports = posts.settled_if day.ports (is_done (port_ack forced d day));
   calls = day.calls;
   denied = day.denied;
-  changes = counted_change (is_complete (ack_all_of d day)) day.changes;
+  changes = counted_change (is_complete (standing_by forced d day)) day.changes;
 }
+
+-- the same, of an acknowledgement that is not forced
+abbrev pub all_said : Decisions → Day → List Said
+all_said = all_saying false
+
+abbrev pub ack_all_of : Decisions → Day → AckAll
+ack_all_of = standing_by false
+
+abbrev pub day_acknowledged : Decisions → Day → Day
+day_acknowledged = day_settled false
+
+-- and of one that is
+abbrev pub all_forced : Decisions → Day → List Said
+all_forced = all_saying true
+
+abbrev pub force_all_of : Decisions → Day → AckAll
+force_all_of = standing_by true
+
+abbrev pub day_forced : Decisions → Day → Day
+day_forced = day_settled true

@@ -57,7 +57,7 @@ asked_of asked manager.File = asked.files
 asked_of asked manager.Process = asked.processes
 asked_of asked manager.Port = asked.ports
 
--- the histories of the three managers, as the administrator sees them: an operation with its caller, its mark and its number
+-- the histories of the three managers, as the administrator sees them: a call with its caller, its mark and its number
 pub record Events : Type 0 where
   pub files : List Event
   pub processes : List Event
@@ -67,7 +67,7 @@ pub record Events : Type 0 where
 abbrev pub no_events : Events
 no_events = record { files = []; processes = []; ports = [] }
 
--- after a client's operation on a manager
+-- after a client's call of a manager
 abbrev pub events_with : Events → Manager → ℕ → ℕ → ℕ → Events
 events_with events manager.File client mark number =
     record { files = events.files ++ Operation client mark number ∷ []; processes = events.processes; ports = events.ports }

@@ -6,8 +6,10 @@ use Rattle.access_vectors.specs.declared.asked.Asked.{Asked}
 use Rattle.access_vectors.specs.declared.class.Class.TheVariants as class
 use Rattle.access_vectors.specs.declared.phase.Phase.{Phase}
 use Rattle.flask_sid.specs.declared.memory.Memory.{Memory}
-use Rattle.manager_history.specs.Answers.{Answer, Denial}
-use Rattle.managed.specs.Posts.{Post, Stood, post_of, answer_on, acting_number, called, begun, ended, last_asked as asked_last}
+use Rattle.manager_history.specs.Answers.{Denial, Manager}
+use Rattle.manager_history.specs.declared.answers.Answer.{Answer}
+use Rattle.manager_history.specs.declared.answers.Answer.TheVariants.{Did, Aborted}
+use Rattle.managed.specs.Posts.{Post, Stood, post_of, said_on, asked_on, answer_on, acting_number, called, begun, ended, last_asked as asked_last}
 use Rattle.managed.specs.Seen.{Seen, IsServed}
 use Rattle.managed.specs.Administered.{seen_of, IsSameBesidesChange}
 use Rattle.managed.specs.declared.managed.Event.TheVariants.{Operation}
@@ -42,13 +44,23 @@ denial_of (reply.File got) = file.denial_of got
 denial_of (reply.Process got) = process.denial_of got
 denial_of (reply.Port got) = port.denial_of got
 
--- what a call gets of its plain manager: the reply, and what was asked
+-- an answer with its reply as one of the three managers'
+abbrev pub answer_of : {R : Type 0} → (R → Reply) → Answer R → Answer Reply
+answer_of wrap (Did got) = Did (wrap got)
+answer_of wrap Aborted = Aborted
+
+-- the denial that an answer is, if it is one: an aborted call is none
+abbrev pub denial_in : Answer Reply → Option Denial
+denial_in (Did got) = denial_of got
+denial_in Aborted = None
+
+-- what a call gets: its plain manager's reply, or that it was aborted; and what was asked
 pub record Told : Type 0 where
-  pub reply : Reply
+  pub answer : Answer Reply
   pub asked : List Asked
 
-abbrev pub told : {R State : Type 0} → (R → Reply) → Answer R State → Told
-told wrap answer = record { reply = wrap answer.reply; asked = answer.asked }
+abbrev pub told : {C R State : Type 0} → (R → Reply) → Manager C R State → Decisions → Post State → ℕ → C → Told
+told wrap plain d post client asks = record { answer = answer_of wrap (said_on plain d post client asks); asked = asked_on plain d post client asks }
 
 -- a client's call is of the manager that stands there, and well formed
 abbrev pub MayCall : Decisions → Place → ℕ → Call → Type 0
@@ -59,9 +71,9 @@ MayCall d post client asks = ⊥
 
 -- what it gets there, under the client's held pass or else the newest number
 abbrev pub TellsCall : Decisions → Place → ℕ → Call → Told → Type 0
-TellsCall d (Files post) client (call.File asks) got = got ≡ told reply.File (answer_on file.answer d post client asks)
-TellsCall d (Processes post) client (call.Process asks) got = got ≡ told reply.Process (answer_on process.answer d post client asks)
-TellsCall d (Ports post) client (call.Port asks) got = got ≡ told reply.Port (answer_on port.answer d post client asks)
+TellsCall d (Files post) client (call.File asks) got = got ≡ told reply.File file.answer d post client asks
+TellsCall d (Processes post) client (call.Process asks) got = got ≡ told reply.Process process.answer d post client asks
+TellsCall d (Ports post) client (call.Port asks) got = got ≡ told reply.Port port.answer d post client asks
 TellsCall d post client asks got = ⊥
 
 -- where the manager stands after it
@@ -198,10 +210,10 @@ module _ {D : Type 0} (decides : D → Decisions) where
     pub served : IsServed (seen was) (seen now)
 
   -- a call was done: it stands in the history under the client's mark
-  pub record HasCalled (client mark : ℕ) (was : OneManager D) (asks : Call) (now : OneManager D) (got : Reply) : Type 0 where
+  pub record HasCalled (client mark : ℕ) (was : OneManager D) (asks : Call) (now : OneManager D) (got : Answer Reply) : Type 0 where
     pub told : Told
     pub tells : TellsCall (decides (decider_of was)) (place_of was) client asks told
-    pub reply : got ≡ told.reply
+    pub answer : got ≡ told.answer
     pub asked : last_asked now ≡ told.asked
     pub place : place_of now ≡ after_call (decides (decider_of was)) (place_of was) client asks
     pub added : (seen now).history ≡ (seen was).history ++ Operation client mark (acting (place_of was) client) ∷ []
@@ -215,12 +227,12 @@ module _ {D : Type 0} (decides : D → Decisions) where
     pub kept : IsKept was now
 
   -- what a client's act does to a manager; want of memory leaves all as it was
-  abbrev pub HasDone : ℕ → OneManager D → Act → OneManager D → Result (Option Reply) Memory → Type 0
+  abbrev pub HasDone : ℕ → OneManager D → Act → OneManager D → Result (Option (Answer Reply)) Memory → Type 0
   HasDone client was (act.Call mark asks) now (Ok (Some got)) = HasCalled client mark was asks now got
   HasDone client was (act.Call mark asks) now (Err memory) = now ≡ was
   HasDone client was act.Begin now (Ok None) = HasPassed was now (after_begin client (place_of was))
   HasDone client was act.End now (Ok None) = HasPassed was now (after_end client (place_of was))
   HasDone client was done now said = ⊥
 
-  abbrev pub Does : OneManager D → OneManager D → ClientAct → Result (Option Reply) Memory → Type 0
+  abbrev pub Does : OneManager D → OneManager D → ClientAct → Result (Option (Answer Reply)) Memory → Type 0
   Does was now done said = HasDone done.client was done.act now said

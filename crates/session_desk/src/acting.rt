@@ -5,6 +5,7 @@ ghost use Rattle.session_desk.specs.Days;
 ghost use Rattle.session_desk.specs.One;
 
 use file_calls::{FileCall, FileReply};
+use manager_history::Answer;
 use port_calls::{PortCall, PortReply};
 use process_calls::{ProcessCall, ProcessReply};
 use session_forms::Manager;
@@ -50,6 +51,16 @@ impl Call {
             Call::Process(_) => Manager::Process,
             Call::Port(_) => Manager::Port,
         }
+    }
+}
+
+/// Whether a call's answer is a denial; that it was aborted is none.
+pub(crate) fn is_denied(answer: &Answer<Reply>) -> bool
+    ensures { result ≡ is_some (One.denial_in answer.now) }
+{
+    match answer {
+        Answer::Did(reply) => reply.is_denied(),
+        Answer::Aborted => false,
     }
 }
 

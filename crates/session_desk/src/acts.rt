@@ -6,23 +6,25 @@ ghost use Rattle.session_desk.specs.Desks;
 ghost use Rattle.session_desk.specs.Desks.{IsSameOpening};
 ghost use Rattle.session_desk.specs.One;
 
-use crate::acting::{Act, Call, ClientAct, Reply};
+use crate::acting::{Act, Call, ClientAct, Reply, is_denied};
 use crate::desk::Desk;
 use access_vectors::{Asked, Decider};
 use flask_sid::Memory;
+use manager_history::Answer;
 use session_forms::Manager;
 use std::alloc::Global;
 
-/// What a client's call got, and the policy number under which it was done.
-#[derive(Debug, Drop)]
+/// What a client's call got, and the policy number under which it was done or aborted.
+#[derive(Drop)]
 pub struct Acted {
-    pub reply: Reply,
+    pub answer: Answer<Reply>,
     pub number: u32,
 }
 
 impl<'d, D: Decider> Desk<'d, D> {
-    /// Does a client's call of one of the managers, under its held pass or else a pass of the newest number. `mark` is the client's
-    /// own number of the call. After `Memory` all is as before.
+    /// Does a client's call of one of the managers, under its held pass or else a pass of the newest number. One under a pass
+    /// below the settled number is aborted, which changes nothing but history and counts. `mark` is the client's own number of
+    /// the call. After `Memory` all is as before.
     pub fn call(
         &mut self,
         alloc: Global,
@@ -33,7 +35,7 @@ impl<'d, D: Decider> Desk<'d, D> {
         requires formed { One.MayCall (D.decides self.old.decider) (Days.place_in self.old.day (Days.manager_of call)) client call }
         requires client { client < 64 }
         requires countable { self.old.day.calls + 1 < 2 ^ 64 }
-        ensures reply { IfOk result (λ acted. acted.reply ≡ (Days.told_to (D.decides self.old.decider) self.old.day client call).reply) }
+        ensures answer { IfOk result (λ acted. acted.answer ≡ (Days.told_to (D.decides self.old.decider) self.old.day client call).answer) }
         ensures number { IfOk result (λ acted. acted.number ≡ Days.acting_on self.old.day client (Days.manager_of call)) }
         ensures asked { OnOk result (Desks.asked_of self.new.asked (Days.manager_of call) ≡ (Days.told_to (D.decides self.old.decider) self.old.day client call).asked) }
         ensures day { OnOk result (self.new.day ≡ Days.day_called (D.decides self.old.decider) self.old.day client call) }
@@ -47,15 +49,15 @@ impl<'d, D: Decider> Desk<'d, D> {
         let manager = call.manager();
         let number = self.acting(client, manager);
         let act = Act::Call { mark, call };
-        let Some(reply) = self
+        let Some(answer) = self
             .changes
             .serve(alloc, number_of(manager), ClientAct { client, act })?
         else {
             unreachable!()
         };
         self.calls += 1;
-        self.denied = counted(self.denied, &reply);
-        Ok(Acted { reply, number })
+        self.denied = counted(self.denied, &answer);
+        Ok(Acted { answer, number })
     }
 
     /// The policy number under which a client acts on a manager.
@@ -66,7 +68,7 @@ impl<'d, D: Decider> Desk<'d, D> {
         self.changes.managers()[usize::from(number_of(manager))].acting(client)
     }
 
-    /// What the newest call of a manager asked.
+    /// What the newest call of a manager asked: one that was aborted nothing.
     pub fn asked(&self, manager: Manager) -> &[Asked]
         ensures { result.now ≡ Desks.asked_of self.now.asked manager }
     {
@@ -115,12 +117,12 @@ fn number_of(manager: Manager) -> u8
     }
 }
 
-/// A count of denied calls, with this reply.
-fn counted(denied: u64, reply: &Reply) -> u64
+/// A count of denied calls, with this answer.
+fn counted(denied: u64, answer: &Answer<Reply>) -> u64
     requires { denied + 1 < 2 ^ 64 }
-    ensures { result ≡ Days.counted_denial (One.denial_of reply.now) denied }
+    ensures { result ≡ Days.counted_denial (One.denial_in answer.now) denied }
 {
-    if reply.is_denied() {
+    if is_denied(answer) {
         denied + 1
     } else {
         denied

@@ -63,6 +63,24 @@ impl<'d, D: Decider> Desk<'d, D> {
         self.completed = counted(self.completed, all);
         Acks { all, said }
     }
+
+    /// The administrator forces the change: each manager that has not acknowledged it does so where no slot of it is stale,
+    /// whatever passes are held.
+    pub fn force<R: Wait>(&mut self, rt: &R) -> Acks
+        requires whole { self.old.whole ≡ true }
+        requires countable { self.old.day.changes + 1 < 2 ^ 64 }
+        ensures all { result.all ≡ Days.force_all_of (D.decides self.old.decider) self.old.day }
+        ensures said { result.said ≡ Days.all_forced (D.decides self.old.decider) self.old.day }
+        ensures day { self.new.day ≡ Days.day_forced (D.decides self.old.decider) self.old.day }
+        ensures opening { IsSameOpening self.old.day self.new.day }
+        ensures decider { self.new.decider ≡ self.old.decider }
+        ensures whole { self.new.whole ≡ true }
+    {
+        let mut said = [Said::Kept; 3];
+        let all = self.changes.force_all(rt, &mut said);
+        self.completed = counted(self.completed, all);
+        Acks { said, all }
+    }
 }
 
 /// A count of changes, with one more where this one is complete.

@@ -6,11 +6,14 @@ ghost use Rattle.session_desk.specs.One;
 
 use crate::acting::{Act, Call, ClientAct, Reply};
 use access_vectors::{Asked, Decider, Phase};
+use file_calls::FileReply;
 use file_manager::FileCore;
 use flask_sid::Memory;
 use managed::{Managed, Plain, Serves};
-use manager_history::{Ack, NotifyFault};
+use manager_history::{Ack, Answer, NotifyFault};
+use port_calls::PortReply;
 use port_manager::PortCore;
+use process_calls::ProcessReply;
 use process_manager::ProcessCore;
 use retained_rights::{AllBits, EachBits};
 use std::alloc::Global;
@@ -60,7 +63,13 @@ impl<'d, D: Decider> OneManager<'d, D> {
     }
 
     /// Does a client's call, which is of this manager, under its held pass or else a pass of the newest number.
-    fn call(&mut self, alloc: Global, client: u8, mark: u32, call: Call) -> Result<Reply, Memory>
+    fn call(
+        &mut self,
+        alloc: Global,
+        client: u8,
+        mark: u32,
+        call: Call,
+    ) -> Result<Answer<Reply>, Memory>
         requires may { One.MayCall (D.decides (One.decider_of self.old)) (One.place_of self.old) client call }
         requires client { client < 64 }
         ensures done { IfOk result (One.HasCalled D.decides client mark self.old call self.new) }
@@ -69,13 +78,13 @@ impl<'d, D: Decider> OneManager<'d, D> {
     {
         match (self, call) {
             (OneManager::File(files), Call::File(call)) => {
-                Ok(Reply::File(files.call(alloc, client, mark, call)?))
+                Ok(of_files(files.call(alloc, client, mark, call)?))
             }
             (OneManager::Process(processes), Call::Process(call)) => {
-                Ok(Reply::Process(processes.call(alloc, client, mark, call)?))
+                Ok(of_processes(processes.call(alloc, client, mark, call)?))
             }
             (OneManager::Port(ports), Call::Port(call)) => {
-                Ok(Reply::Port(ports.call(alloc, client, mark, call)?))
+                Ok(of_ports(ports.call(alloc, client, mark, call)?))
             }
             _ => unreachable!(),
         }
@@ -103,6 +112,34 @@ impl<'d, D: Decider> OneManager<'d, D> {
             OneManager::Process(processes) => processes.end(client),
             OneManager::Port(ports) => ports.end(client),
         }
+    }
+}
+
+/// An answer of the manager of files as one of the three managers'.
+fn of_files(answer: Answer<FileReply>) -> Answer<Reply>
+    ensures { result ≡ One.answer_of Reply.File answer }
+{
+    match answer {
+        Answer::Did(reply) => Answer::Did(Reply::File(reply)),
+        Answer::Aborted => Answer::Aborted,
+    }
+}
+
+fn of_processes(answer: Answer<ProcessReply>) -> Answer<Reply>
+    ensures { result ≡ One.answer_of Reply.Process answer }
+{
+    match answer {
+        Answer::Did(reply) => Answer::Did(Reply::Process(reply)),
+        Answer::Aborted => Answer::Aborted,
+    }
+}
+
+fn of_ports(answer: Answer<PortReply>) -> Answer<Reply>
+    ensures { result ≡ One.answer_of Reply.Port answer }
+{
+    match answer {
+        Answer::Did(reply) => Answer::Did(Reply::Port(reply)),
+        Answer::Aborted => Answer::Aborted,
     }
 }
 
@@ -137,6 +174,14 @@ impl<'d, D: Decider> Managed for OneManager<'d, D> {
         }
     }
 
+    fn force<R: Wait>(&mut self, rt: &R) -> Ack {
+        match self {
+            OneManager::File(files) => Managed::force(files, rt),
+            OneManager::Process(processes) => Managed::force(processes, rt),
+            OneManager::Port(ports) => Managed::force(ports, rt),
+        }
+    }
+
     ghost reflexive = { same_reflexive };
 
     ghost transitive = { same_transitive };
@@ -147,13 +192,13 @@ impl<'d, D: Decider> Serves for OneManager<'d, D> {
 
     type Act = ClientAct;
 
-    type Outcome = Result<Option<Reply>, Memory>;
+    type Outcome = Result<Option<Answer<Reply>>, Memory>;
 
     ghost may = { May D.decides };
 
     ghost does = { Does D.decides };
 
-    fn serve(&mut self, alloc: Global, act: ClientAct) -> Result<Option<Reply>, Memory> {
+    fn serve(&mut self, alloc: Global, act: ClientAct) -> Result<Option<Answer<Reply>>, Memory> {
         let ClientAct { client, act } = act;
         match act {
             Act::Call { mark, call } => Ok(Some(self.call(alloc, client, mark, call)?)),

@@ -270,7 +270,8 @@ admin_given [] = tt
 admin_given (what ∷ words) =
     by_test IsRunForm (bytes_eq what (codes "notify")) _ _ (by_step IsRunForm (only_number words) _ (λ version is. tt))
     (by_test IsRunForm (bytes_eq what (codes "update")) _ _ (by_step IsRunForm (only_number words) _ (λ most is. tt))
-    (by_test IsRunForm (bytes_eq what (codes "ack")) _ None (alone_given words form.Ack tt) tt))
+    (by_test IsRunForm (bytes_eq what (codes "ack")) _ _ (alone_given words form.Ack tt)
+    (by_test IsRunForm (bytes_eq what (codes "force")) _ None (alone_given words form.Force tt) tt)))
 
 -- any line that runs
 run_given : (first : List ℕ) (words : List (List ℕ)) → AreWords words → IfSome (run_form first words) IsRunForm

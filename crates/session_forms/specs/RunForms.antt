@@ -49,6 +49,7 @@ admin_form (what ∷ words) =
     if bytes_eq what (codes "notify") then (only_number words >>= λ version. Some (form.Notify version))
     else if bytes_eq what (codes "update") then (only_number words >>= λ most. Some (form.Update most))
     else if bytes_eq what (codes "ack") then alone words form.Ack
+    else if bytes_eq what (codes "force") then alone words form.Force
     else None
 
 -- any line that runs, by its first word

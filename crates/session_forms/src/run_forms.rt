@@ -25,6 +25,7 @@ pub enum RunForm<'a> {
     Notify(u64),
     Update(u64),
     Ack,
+    Force,
 }
 
 /// What the words of a line that runs say, or `None` where they are none.
@@ -55,6 +56,9 @@ fn admin_form<'a>(mut words: Words<'a>) -> Option<RunForm<'a>>
     }
     if what.is(b"ack") {
         return alone(words, RunForm::Ack);
+    }
+    if what.is(b"force") {
+        return alone(words, RunForm::Force);
     }
     None
 }

@@ -14,7 +14,7 @@ use Rattle.file_calls.specs.declared.call.FileCall.TheVariants as file
 use Rattle.process_calls.specs.declared.call.ProcessCall.TheVariants as process
 use Rattle.port_calls.specs.declared.call.PortCall.TheVariants as port
 use Rattle.session_forms.specs.declared.run_forms.Manager.TheVariants as manager
-use Rattle.session_text.specs.declared.session.Run.TheVariants.{File, Process, Port, Begin, End, Notify, Update, Ack}
+use Rattle.session_text.specs.declared.session.Run.TheVariants.{File, Process, Port, Begin, End, Notify, Update, Ack, Force}
 use Rattle.session_text.specs.declared.session.SessionParts.{SessionParts}
 use Rattle.session_print.specs.Words.{mode_word, bind_word}
 use Rattle.session_print.specs.CallWords.{file_words, process_words, port_words}
@@ -60,10 +60,11 @@ session = record {
       ∷ record { line = 27; run = Update 4294967295 }
       ∷ record { line = 28; run = End 0 manager.Port }
       ∷ record { line = 29; run = Ack }
+      ∷ record { line = 30; run = Force }
       ∷ [];
 }
 
 -- its text
-example_printed : printed session ≡ codes "policy 1\ntype t\ntype s\ncontext u:r:t\ncontext u:r:s\nversion\nallow t s file read write\nsession\ninitial root u:r:t\ninitial port u:r:s\nport 80 u:r:t\naudit\ndir /a u:r:t\nfile /a/b u:r:s\nfile /c u:r:s #x\nclient ann u:r:t\nclient bob u:r:s\nrun\nann port begin\nann file open 3 /a/b ra\nann file give 3 bob 7\nbob file list / 0\nbob process exec 65535 u:r:t\nann port bind 0 80 br\nadmin notify 1\nadmin update 4294967295\nann port end\nadmin ack\n"
+example_printed : printed session ≡ codes "policy 1\ntype t\ntype s\ncontext u:r:t\ncontext u:r:s\nversion\nallow t s file read write\nsession\ninitial root u:r:t\ninitial port u:r:s\nport 80 u:r:t\naudit\ndir /a u:r:t\nfile /a/b u:r:s\nfile /c u:r:s #x\nclient ann u:r:t\nclient bob u:r:s\nrun\nann port begin\nann file open 3 /a/b ra\nann file give 3 bob 7\nbob file list / 0\nbob process exec 65535 u:r:t\nann port bind 0 80 br\nadmin notify 1\nadmin update 4294967295\nann port end\nadmin ack\nadmin force\n"
 unfolding digits perm_word has context_text held_names policy_lines mode_word bind_word file_words process_words port_words setup_lines run_lines lines_below_policy session_lines printed
 example_printed = refl

@@ -20,7 +20,7 @@ use Rattle.session_forms.specs.declared.run_forms.Manager.TheVariants as manager
 use Rattle.session_forms.specs.declared.run_forms.RunForm.{RunForm}
 use Rattle.session_forms.specs.declared.run_forms.RunForm.TheVariants as form
 use Rattle.session_text.specs.declared.session.Run.{Run}
-use Rattle.session_text.specs.declared.session.Run.TheVariants.{File, Process, Port, Begin, End, Notify, Update, Ack}
+use Rattle.session_text.specs.declared.session.Run.TheVariants.{File, Process, Port, Begin, End, Notify, Update, Ack, Force}
 use Rattle.session_text.specs.declared.session.RunLine.{RunLine}
 use Rattle.session_text.specs.declared.session.SessionParts.{SessionParts}
 use Rattle.session_text.specs.Above.{client_number}
@@ -160,6 +160,8 @@ run_says one grown named (Update most) asks written turn =
     }
 run_says one grown named Ack asks written turn =
     record { said = form.Ack; words_are = refl; plain = refl; says = refl; reads = λ n state same. refl }
+run_says one grown named Force asks written turn =
+    record { said = form.Force; words_are = refl; plain = refl; says = refl; reads = λ n state same. refl }
 
 -- a line more, in sessions that are the same
 with_same_line : (n : ℕ) (line : RunLine) (state one : SessionParts) → IsSameSession state one → IsSameSession (with_line n line.run state) (record one { lines = one.lines ++ line ∷ [] })

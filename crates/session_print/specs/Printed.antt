@@ -7,7 +7,7 @@ use Rattle.file_calls.specs.declared.opening.Node.{Node}
 use Rattle.port_calls.specs.declared.opening.LabelledPort.{LabelledPort}
 use Rattle.session_text.specs.declared.session.ClientLine.{ClientLine}
 use Rattle.session_text.specs.declared.session.Run.{Run}
-use Rattle.session_text.specs.declared.session.Run.TheVariants.{File, Process, Port, Begin, End, Notify, Update, Ack}
+use Rattle.session_text.specs.declared.session.Run.TheVariants.{File, Process, Port, Begin, End, Notify, Update, Ack, Force}
 use Rattle.session_text.specs.declared.session.RunLine.{RunLine}
 use Rattle.session_text.specs.declared.session.SessionParts.{SessionParts}
 use Rattle.session_print.specs.Words.{context_word, client_word, path_word, manager_word}
@@ -55,6 +55,7 @@ run_words contexts clients (End client manager) = client_word clients client ∷
 run_words contexts clients (Notify ver) = codes "admin" ∷ codes "notify" ∷ decimal ver ∷ []
 run_words contexts clients (Update most) = codes "admin" ∷ codes "update" ∷ decimal most ∷ []
 run_words contexts clients Ack = codes "admin" ∷ codes "ack" ∷ []
+run_words contexts clients Force = codes "admin" ∷ codes "force" ∷ []
 
 -- a line that runs, whatever its number
 abbrev pub run_line_words : List ContextLine → List ClientLine → RunLine → List (List ℕ)

@@ -68,6 +68,7 @@ fn put_run(
             put_numeral(out, u64::from(*k))
         }
         Run::Ack => out.extend(b"admin ack"),
+        Run::Force => out.extend(b"admin force"),
     }
 }
 

@@ -12,7 +12,7 @@ use Rattle.session_forms.specs.RunForms.{run_form}
 use Rattle.session_forms.specs.declared.run_forms.RunForm.{RunForm}
 use Rattle.session_forms.specs.declared.run_forms.RunForm.TheVariants as form
 use Rattle.session_text.specs.declared.session.Run.{Run}
-use Rattle.session_text.specs.declared.session.Run.TheVariants.{Begin, End, Notify, Update, Ack}
+use Rattle.session_text.specs.declared.session.Run.TheVariants.{Begin, End, Notify, Update, Ack, Force}
 use Rattle.session_text.specs.declared.session.SessionParts.{SessionParts}
 use Rattle.session_text.specs.Above.{client_number}
 use Rattle.session_text.specs.Grammar.{with_line, holds, asked_call, client_call_read, begin_read, end_read, notify_read, update_read, run_read, run_words_read, run_line_read}
@@ -51,6 +51,7 @@ form_above n (form.Notify version) session above =
 form_above n (form.Update most) session above =
     unless (nat_lt 4294967295 most) Limit (Ok (with_line n (Update most) session)) (IsAbove n) (λ limit. last_above n (Update most) session above)
 form_above n form.Ack session above = last_above n Ack session above
+form_above n form.Force session above = last_above n Force session above
 
 words_above : (n : ℕ) (words : List (List ℕ)) (session : SessionParts) → AreAbove n session.lines → IfOk (run_words_read n words session) (IsAbove n)
 unfolding run_words_read

@@ -8,7 +8,7 @@ use Rattle.session_forms.specs.declared.run_forms.Manager.{Manager}
 use Rattle.session_forms.specs.declared.run_forms.Manager.TheVariants as manager
 use Rattle.session_text.specs.declared.passes.ClientPasses.{ClientPasses}
 use Rattle.session_text.specs.declared.session.Run.{Run}
-use Rattle.session_text.specs.declared.session.Run.TheVariants.{File, Process, Port, Begin, End, Notify, Update, Ack}
+use Rattle.session_text.specs.declared.session.Run.TheVariants.{File, Process, Port, Begin, End, Notify, Update, Ack, Force}
 use Rattle.session_text.specs.declared.session.RunLine.{RunLine}
 use Rattle.session_text.specs.declared.session.SessionParts.{SessionParts}
 use Rattle.session_text.specs.Sessions.{IsSidOf, IsRun, same_manager, held_below, held_after, is_held}
@@ -82,6 +82,7 @@ noted_held held clients lines n (Port client said) are within = keep_held held c
 noted_held held clients lines n (Notify ver) are within = keep_held held clients lines (record { line = n; run = Notify ver }) are (λ above other asked. refl)
 noted_held held clients lines n (Update most) are within = keep_held held clients lines (record { line = n; run = Update most }) are (λ above other asked. refl)
 noted_held held clients lines n Ack are within = keep_held held clients lines (record { line = n; run = Ack }) are (λ above other asked. refl)
+noted_held held clients lines n Force are within = keep_held held clients lines (record { line = n; run = Force }) are (λ above other asked. refl)
 
 -- the client of a line that may stand is within the table
 pub run_within : (known : ℕ → Type 0) (clients : ℕ) (run : Run) → IsRun known clients run → IsWithin clients (change_of run)
@@ -93,6 +94,7 @@ run_within known clients (Port client said) is = tt
 run_within known clients (Notify ver) is = tt
 run_within known clients (Update most) is = tt
 run_within known clients Ack is = tt
+run_within known clients Force is = tt
 
 -- a table that is kept for a session, and for the session with one line more
 pub line_noted : (held : List ClientPasses) (session : SessionParts) (n : ℕ) (run : Run) → AreHeld held (length session.clients) session.lines → IsRun (IsSidOf session.policy.contexts) (length session.clients) run → AreHeld (noted held (change_of run)) (length session.clients) (session.lines ++ record { line = n; run = run } ∷ [])

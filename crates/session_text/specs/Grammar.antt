@@ -35,7 +35,7 @@ use Rattle.session_forms.specs.declared.setup_forms.Initial.{Initial}
 use Rattle.session_forms.specs.declared.setup_forms.Initial.TheVariants.{Root, Ports}
 use Rattle.session_text.specs.declared.session.ClientLine.{ClientLine}
 use Rattle.session_text.specs.declared.session.Run.{Run}
-use Rattle.session_text.specs.declared.session.Run.TheVariants.{File, Process, Port, Begin, End, Notify, Update, Ack}
+use Rattle.session_text.specs.declared.session.Run.TheVariants.{File, Process, Port, Begin, End, Notify, Update, Ack, Force}
 use Rattle.session_text.specs.declared.session.SessionParts.{SessionParts}
 use Rattle.session_text.specs.Above.{node_limit, port_limit, client_limit, context_sid, client_number, has_client, has_port}
 use Rattle.session_text.specs.Sessions.{is_held}
@@ -254,6 +254,7 @@ run_read n (form.End name manager) session = end_read n name manager session
 run_read n (form.Notify version) session = notify_read n version session
 run_read n (form.Update most) session = update_read n most session
 run_read n form.Ack session = Ok (with_line n Ack session)
+run_read n form.Force session = Ok (with_line n Force session)
 
 -- what a line that runs says, if anything
 unfoldable pub run_words_read : ℕ → List (List ℕ) → SessionParts → Result SessionParts FaultKind

@@ -23,7 +23,7 @@ use Rattle.session_forms.specs.declared.run_forms.Manager.TheVariants as manager
 use Rattle.session_text.specs.Above.{node_limit, port_limit, client_limit, has_port, has_client}
 use Rattle.session_text.specs.declared.session.ClientLine.{ClientLine}
 use Rattle.session_text.specs.declared.session.Run.{Run}
-use Rattle.session_text.specs.declared.session.Run.TheVariants.{File, Process, Port, Begin, End, Notify, Update, Ack}
+use Rattle.session_text.specs.declared.session.Run.TheVariants.{File, Process, Port, Begin, End, Notify, Update, Ack, Force}
 use Rattle.session_text.specs.declared.session.RunLine.{RunLine}
 use Rattle.session_text.specs.declared.session.SessionParts.{SessionParts}
 
@@ -91,6 +91,7 @@ IsRun known clients (End client manager) = client < clients
 IsRun known clients (Notify ver) = ver < 256
 IsRun known clients (Update most) = most < 4294967296
 IsRun known clients Ack = Unit {0}
+IsRun known clients Force = Unit {0}
 
 -- what a call of the file manager, of the process manager or of the port manager carries can be written in a word
 abbrev pub IsFileWritten : FileCall → Type 0

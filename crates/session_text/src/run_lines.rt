@@ -31,6 +31,7 @@ pub(crate) fn run_read<'a>(
         RunForm::Notify(version) => notify_read(line, version, running),
         RunForm::Update(most) => update_read(line, most, running),
         RunForm::Ack => Ok(running.add_line(line, Run::Ack)?),
+        RunForm::Force => Ok(running.add_line(line, Run::Force)?),
     }
 }
 

@@ -39,6 +39,8 @@ pub enum Run {
     Update { k: u32 },
     /// The administrator asks whether the change is complete.
     Ack,
+    /// The administrator ends the change without waiting for the passes of the older number.
+    Force,
 }
 
 /// A line that runs, with its number in the text.

@@ -42,11 +42,11 @@ give_admin-requires-in-Ok-clause-value g c =
     let value = c.take_admin-ledger.ensures.value in
     let ledger = c.take_admin-ledger.result in
     let learns = c.take_admin-ledger.ensures.learns in
-    let newest = ap (λ (p : _). p.0) learns.1 in (
+    let newest = ap (λ (p : _). p.0) learns.1.last in (
       value.0,
       c.in-Ok.ensures.decider ∙ value.1,
       growing.grown _ _ _ _ value.2 c.in-Ok.ensures.ok
-          (⊎_elim (λ e. absurd (c.if-ledger-newest.false (ledger.settled_is ∙ (e ∙ (sym newest ∙ sym ledger.newest_is))))) (λ e. newest ∙ e) learns.3, ledger.newest_is),
+          (⊎_elim (λ e. absurd (c.if-ledger-newest.false (ledger.settled_is ∙ (e ∙ (sym newest ∙ sym ledger.newest_is))))) (λ e. newest ∙ e) learns.1.settled, ledger.newest_is),
       tt,
     )
 
@@ -61,7 +61,7 @@ returns-in-Ok-clause-answer g c =
     let ledger = c.take_admin-ledger.result in
     let items = ledger.lines.items in
     let apart = λ (e : _). c.if-ledger-newest.false (ledger.settled_is ∙ (e ∙ sym ledger.newest_is)) in
-    let newest = ap (λ (p : _). p.0) c.take_admin-ledger.ensures.learns.1 in
+    let newest = ap (λ (p : _). p.0) c.take_admin-ledger.ensures.learns.1.last in
     let known = ap (λ (v : _). v.desk.newest) took ∙ (sym newest ∙ sym ledger.newest_is) in
     let none = c.if-older-gt0.false in
     let sum : 0 + w.trace.last.found ≡ u.desk.counted = let o = c.older-older.ensures.older in omega (arith, none) in (

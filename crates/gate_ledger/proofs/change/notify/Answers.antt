@@ -1,6 +1,8 @@
 use Rattle.std.proofs.Common.{◌≡◌, ℕ, ◌+◌, ◌∙◌, Some, None, sym, ap, subst}
 use Rattle.gate_ledger.specs.declared.ledger.Line.TheVariants.{Noticed}
-use Rattle.gate_ledger.specs.Changes.{phase_after, notice_fault}
+use Rattle.access_vectors.specs.Notices.{notice_fault}
+use Rattle.epoch_gate.specs.Known.{versions_at}
+use Rattle.gate_ledger.specs.Changes.{phase_after}
 use Rattle.gate_ledger.proofs.Growing as growing
 use Rattle.gate_ledger.proofs.Noticing as noticing
 use Rattle.gate_ledger.proofs.change.notify.Goals as goal
@@ -16,16 +18,16 @@ returns-in-Ok-clause-ok g c =
     let learns = c.take_admin-ledger.ensures.learns in
     let lawful = c.take_admin-ledger.ensures.value.2 in
     let versions = c.versions.ensures ∙ ap (λ (d : _). (g.D.Decider.decides d).versions) c.decider.ensures in
-    let number = noticing.number _ c.args.ver c.args.most items lawful c.in-Ok.ensures.settled in
+    let number = noticing.number _ c.args.ver c.most.result items lawful c.in-Ok.ensures.settled in
     let next = c.in-Ok.ensures.next ∙ ap (λ (n : ℕ). n + 1) (sym number) in
     let seen = ap (λ (v : _). v.seen) raised ∙ ap (λ (v : _). v.seen) took in (
       items,
-      subst (λ (n : ℕ). notice_fault (phase_after items) n c.args.ver c.args.most ≡ None) versions c.in-Ok.ensures.allowed,
+      subst (λ (m : ℕ). notice_fault (phase_after items) (versions_at g.D.Decider.decides c.args.gate.now) c.args.ver m ≡ None) c.most.ensures (subst (λ (n : ℕ). notice_fault (phase_after items) n c.args.ver c.most.result ≡ None) versions c.in-Ok.ensures.allowed),
       next,
       (learns.0, ap (λ (v : _). v.seen) gave ∙ c.in-Ok.ensures.ok),
       growing.turn_done w b c.in-Ok.ledger.lines.items 0 (ap (λ (v : _). v.desk.turns) gave) _ (Some (Noticed c.in-Ok.ledger.newest c.args.ver)) None 0 (ap (λ (v : _). v.desk.turns) raised ∙ ap (λ (v : _). v.desk.turns) took)
           (growing.line_added w items _ (Noticed c.in-Ok.ledger.newest c.args.ver) seen c.in-Ok.ensures.ok) (ap (λ (v : _). v.desk.looked) raised ∙ ap (λ (v : _). v.desk.looked) took) (ap (λ (v : _). v.desk.found) raised ∙ ap (λ (v : _). v.desk.found) took),
-      ap (λ (v : _). v.desk.newest) gave ∙ (ap (λ (v : _). v.desk.newest) raised ∙ (ap (λ (v : _). v.desk.newest + 1) took ∙ (ap (λ (p : _). p.0 + 1) (sym learns.1) ∙ sym c.in-Ok.ensures.next))),
+      ap (λ (v : _). v.desk.newest) gave ∙ (ap (λ (v : _). v.desk.newest) raised ∙ (ap (λ (v : _). v.desk.newest + 1) took ∙ (ap (λ (p : _). p.0 + 1) (sym learns.1.last) ∙ sym c.in-Ok.ensures.next))),
       ap (λ (v : _). v.desk.version) gave ∙ c.raise.ensures.version,
     )
 

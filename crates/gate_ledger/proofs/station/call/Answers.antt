@@ -14,7 +14,11 @@ give-requires-clause-value g c =
     (value.0, c.in-Ok.ensures.decider ∙ value.1, growing.grown _ _ _ _ value.2 c.in-Ok.ensures.ok tt, tt)
 
 pub returns-in-Ok-clause-turn : goal.returns-in-Ok-clause-turn
-returns-in-Ok-clause-turn g c = growing.had_turn c.args.seat.now.view.trace c.take-ledger.new.seat.view.trace _ _ _ c.take-ledger.ensures.waited (ap (λ (v : _). v.trace) c.give.ensures.gave)
+returns-in-Ok-clause-turn g c =
+    growing.had_turn c.args.seat.now c.take-ledger.new.seat c.give.new.seat c.in-Ok.ledger.lines.items 0 c.take-ledger.ensures.waited (ap (λ (v : _). v.trace) c.give.ensures.gave)
+    c.take-ledger.ensures.turns c.give.ensures.turns
 
 pub returns-in-Err-clause-turn : goal.returns-in-Err-clause-turn
-returns-in-Err-clause-turn g c = growing.had_turn c.args.seat.now.view.trace c.take-ledger.new.seat.view.trace _ _ _ c.take-ledger.ensures.waited (ap (λ (v : _). v.trace) c.give-in-Err.ensures.gave)
+returns-in-Err-clause-turn g c =
+    growing.had_turn c.args.seat.now c.take-ledger.new.seat c.give-in-Err.new.seat c.in-Err.ledger.lines.items 0 c.take-ledger.ensures.waited (ap (λ (v : _). v.trace) c.give-in-Err.ensures.gave)
+    c.take-ledger.ensures.turns c.give-in-Err.ensures.turns

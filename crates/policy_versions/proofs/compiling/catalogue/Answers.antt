@@ -25,4 +25,5 @@ returns c =
       judged = (has_room _ _ c.requires.contexts.contexts c.requires.contexts.few, c.requires.contexts.contexts, c.requires.breaks);
       decides = decides_same _ c.args.contexts c.args.given c.parts.ensures.kept c.requires.given c.requires.contexts _ c.args.vectors versions c.requires.vectors;
       kinds = kinds_same _ c.args.contexts c.args.given c.parts.ensures.kept c.requires.given c.requires.contexts;
+      vectors = c.requires.vectors;
     }

@@ -22,14 +22,14 @@ returns-then-newest-most-clause-err g c =
     let at : settled_in kind_of self.lines.items ≡ (last_notice kind_of self.lines.items).0 = omega (arith, self.settled_is, self.newest_is, c.if-self-newest.false) in (
       refl,
       noticing.refuses _ _
-          (noticing.spent c.args.versions c.args.ver c.args.most self.lines.items c.requires.lawful at (omega (arith, c.from.ensures, c.if-from-versions.false)) (omega (arith, self.newest_is, c.if-newest-most.true))),
+          (noticing.spent c.args.versions c.args.ver c.args.most self.lines.items c.requires.lawful at (omega (arith, c.from.ensures, c.if-from-versions.false)) (sym self.newest_is ∙ c.if-newest-most.true)),
     )
 
 pub returns-in-Ok-clause-allowed : goal.returns-in-Ok-clause-allowed
 returns-in-Ok-clause-allowed g c =
     let self = c.args.self in
     let at : settled_in kind_of self.lines.items ≡ (last_notice kind_of self.lines.items).0 = omega (arith, self.settled_is, self.newest_is, c.if-self-newest.false) in
-    noticing.allowed c.args.versions c.args.ver c.args.most self.lines.items c.requires.lawful at (omega (arith, c.from.ensures, c.if-from-versions.false)) (omega (arith, self.newest_is, c.if-newest-most.false))
+    noticing.allowed c.args.versions c.args.ver c.args.most self.lines.items c.requires.lawful at (omega (arith, c.from.ensures, c.if-from-versions.false)) (λ e. c.if-newest-most.false (self.newest_is ∙ e))
 
 pub returns-in-Ok-clause-lawful : goal.returns-in-Ok-clause-lawful
 returns-in-Ok-clause-lawful g c =
@@ -43,5 +43,5 @@ returns-in-Err-clause-err g c =
     let at : settled_in kind_of self.lines.items ≡ (last_notice kind_of self.lines.items).0 = omega (arith, self.settled_is, self.newest_is, c.if-self-newest.false) in (
       c.in-Err.ensures.ok,
       noticing.lacks_memory _
-          (noticing.allowed c.args.versions c.args.ver c.args.most self.lines.items c.requires.lawful at (omega (arith, c.from.ensures, c.if-from-versions.false)) (omega (arith, self.newest_is, c.if-newest-most.false))),
+          (noticing.allowed c.args.versions c.args.ver c.args.most self.lines.items c.requires.lawful at (omega (arith, c.from.ensures, c.if-from-versions.false)) (λ e. c.if-newest-most.false (self.newest_is ∙ e))),
     )

@@ -1,3 +1,4 @@
+use Rattle.std.proofs.Common.{false}
 use Rattle.session_desk.proofs.ThreeLemmas.{three}
 use Rattle.session_desk.proofs.AckLemmas.{IsAckedSession, acked_session}
 use Rattle.session_desk.proofs.desk.Desk.acknowledge.Given as given
@@ -5,12 +6,12 @@ use Rattle.session_desk.proofs.desk.Desk.acknowledge.Goals as goal
 
 -- the session after the question
 acked : (g : given.Over) (c : goal.After-self-1 g)
-    → IsAckedSession g.D.Decider.decides c.self.inside.changes c.ack_all-all.new.self c.ack_all-all.new.said c.ack_all-all.result c.self.inside.calls c.self.inside.denied c.self.inside.completed
+    → IsAckedSession g.D.Decider.decides false c.self.inside.changes c.ack_all-all.new.self c.ack_all-all.new.said c.ack_all-all.result c.self.inside.calls c.self.inside.denied c.self.inside.completed
 acked g c =
     let told = c.ack_all-all.ensures in
     let s = c.self.invariant.0 in
     let t = three c.self.inside.changes s c.ack_all-all.new.self.managers told.many told.same in
-    acked_session g.D.Decider.decides c.self.inside.changes c.ack_all-all.new.self s t c.ack_all-all.new.said c.ack_all-all.result c.self.inside.calls c.self.inside.denied c.self.inside.completed
+    acked_session g.D.Decider.decides false c.self.inside.changes c.ack_all-all.new.self s t c.ack_all-all.new.said c.ack_all-all.result c.self.inside.calls c.self.inside.denied c.self.inside.completed
     (rw (← c.self.view_is) at c.requires.whole)
     (record {
       answer = told.answer;

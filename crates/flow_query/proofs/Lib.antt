@@ -1,0 +1,4 @@
+pub mod Numbers
+pub mod LevelLemmas
+pub mod WalkLemmas
+pub mod NodeLemmas

@@ -1,0 +1,4 @@
+pub mod Routes
+pub mod Hops
+pub mod Paths
+pub mod Levels

@@ -1,0 +1,5 @@
+pub mod Reading
+pub mod Keeping
+pub mod Serving
+pub mod Changing
+pub mod Administering

@@ -1,0 +1,45 @@
+use Rattle.std.proofs.Common.{◌≡◌, ℕ, Bool, true, false, [], ◌∷◌, ◌++◌, length, append-nil, refl, sym, ap, ◌∙◌, subst, Some, None, arith}
+use Rattle.std.specs.Prelude.{IsTrue}
+use Rattle.std.specs.FinMap as maps
+use Rattle.access_vectors.specs.Phases.{number_of, is_pending}
+use Rattle.manager_history.specs.declared.entry.Entry.TheVariants as entry
+use Rattle.manager_history.specs.Kept.{ack_answer, is_done}
+use Rattle.managed_run.specs.Kinds.{kind_of, phase_of, IsUncalled}
+use Rattle.managed_run.specs.Laws.{alternates_lawful}
+use Rattle.managed_run.specs.Changes.{HasFound}
+use Rattle.epoch_gate.specs.Known.{seen_by}
+use Rattle.managed_run.proofs.Reading as reading
+use Rattle.managed_run.proofs.Keeping as keeping
+use Rattle.managed_run.proofs.Changing as changing
+use Rattle.gate_rule.proofs.Histories.{nothing_added, one_added}
+use Rattle.managed_run.proofs.station.Station.update.Goals as goal
+
+pub give_admin-requires-clause-value : goal.give_admin-requires-clause-value
+give_admin-requires-clause-value g c =
+    let value = c.take_admin-keeper.ensures.value in
+    let keeper = c.take_admin-keeper.result.keeper in
+    let told = c.update-left.ensures in
+    let kept = c.entries-kept.ensures in
+    let opened = told.opening ∙ value.3.opened in (
+      (λ i. record { core = c.take_admin-keeper.result.first.value; manager = told.manager i }) ∙ value.0,
+      told.decider ∙ value.1,
+      keeping.promised g.C.Core.plain g.C.Core.formed g.D.Decider.decides _ _ _ _ _ (told.decider ∙ value.1) (opened ∙ ap (λ (o : _). g.C.Core.opening o.core) value.0) kept.lawful,
+      keeping.from_entries g.C.Core.plain _ g.C.Core.class g.C.Core.pair_of g.C.Core.opening g.C.Core.state g.C.Core.follows g.C.Core.stale c.take_admin-keeper.result.first.value c.update-left.new.self opened kept.replayed kept.stale kept.follows
+          (λ none. ap maps.entries told.follows ∙ keeping.unused_mapped _ _ (value.3.unused (subst IsUncalled told.history none))),
+    )
+
+pub returns-clause-turned : goal.returns-clause-turned
+returns-clause-turned g c =
+    let took = c.take_admin-keeper.ensures in
+    let value = took.value in
+    let keeper = c.take_admin-keeper.result.keeper in
+    let told = c.update-left.ensures in
+    let gave = c.give_admin.ensures in
+    let found = keeping.found_by g.C.Core.plain (g.D.Decider.decides keeper.decider) g.C.Core.class g.C.Core.pair_of g.C.Core.opening g.C.Core.state g.C.Core.follows g.C.Core.stale c.take_admin-keeper.result.first.value keeper value.3 c.args.admin.now c.give_admin.new.admin took.learns (gave.found ∙ took.found) in
+    record {
+      found = subst (λ (l : _). HasFound l c.args.admin.now c.give_admin.new.admin) (sym (gave.seen ∙ told.history)) found;
+      turn = changing.turned c.args.admin.now c.take_admin-keeper.new.admin c.give_admin.new.admin c.update-left.new.self.history (length (g.C.Core.stale c.update-left.new.self.core)) None None gave.turns took.turns
+          (changing.item_added false (seen_by c.take_admin-keeper.new.admin) keeper.history c.update-left.new.self.history (entry.Ack 0) took.seen (told.history ∙ sym (append-nil keeper.history))) took.shown gave.found gave.left;
+      current = gave.same.number ∙ took.same.number;
+      at_version = gave.same.version ∙ took.same.version;
+    }

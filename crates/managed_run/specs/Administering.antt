@@ -1,0 +1,73 @@
+-- What the administrator of a change sees of a manager behind its gate.
+use Rattle.std.specs.Prelude.{◌≡◌, ℕ, ◌-◌, ◌^◌, min, List, [], map, length, All, Option, Some, None, option_map}
+use Rattle.std.specs.List.{fold}
+use Rattle.access_vectors.specs.Decisions.{Decisions}
+use Rattle.manager_history.specs.declared.entry.Entry.{Entry}
+use Rattle.managed.specs.Seen.{Seen, event_of}
+use Rattle.managed.specs.declared.managed.Event.{Event}
+use Rattle.managed.specs.declared.managed.Shown.{Shown as Showing}
+use Rattle.gate_rule.specs.declared.view.Item.{Item}
+use Rattle.epoch_gate.specs.Seats.{Shown, Site, IsOfGate}
+use Rattle.epoch_gate.specs.Known.{seen_by, seats_made, seats_retired, turns_had, greatest_number, versions_at, IsIdle}
+use Rattle.managed_run.specs.declared.docket.Opened.{Opened}
+use Rattle.managed_run.specs.Kinds.{phase_of}
+
+-- a count that is not told is 0
+abbrev pub or_none : Option ℕ → ℕ
+or_none None = 0
+or_none (Some older) = older
+
+-- what a turn showed
+abbrev pub showing : {E : Type 0} → Item E → Showing
+showing item = record { older = or_none item.looked; found = item.found; left = item.left }
+
+-- what the last of the turns showed, and before the first nothing
+abbrev pub last_shown : {E : Type 0} → List (Item E) → Showing
+last_shown turns = fold (λ before item. showing item) (record { older = 0; found = 0; left = 0 }) turns
+
+-- how many turns there were, in 64 bits
+abbrev pub tries_of : {E : Type 0} → List (Item E) → ℕ
+tries_of turns = min (length turns) (2 ^ 64 - 1)
+
+-- a turn found no stale slot, and counted no older pass
+pub record IsClear {E : Type 0} (item : Item E) : Type 0 where
+  pub found : item.found ≡ 0
+  pub older : or_none item.looked ≡ 0
+
+-- a station, and its administrator
+pub record Holding (Core D Call Reply : Type 0) : Type 0 where
+  pub site : Site D (Opened Core)
+  pub admin : Shown (Entry Call Reply) D (Opened Core)
+
+-- the administrator is the station's and has not the turn; where it made no seat, each of its turns was clear
+pub record IsHolding {Core D Call Reply : Type 0} (held : Holding Core D Call Reply) : Type 0 where
+  pub gate : IsOfGate held.site held.admin
+  pub idle : IsIdle held.admin
+  pub clear : seats_made held.admin ≡ 0 → All IsClear (turns_had held.admin)
+
+-- the entry of a turn, as the administrator of a change sees it
+abbrev pub event_in : {Call Reply : Type 0} → Item (Entry Call Reply) → Option Event
+event_in item = option_map event_of item.entry
+
+-- what is seen of it: the history that the administrator has seen, its phase, the turns as items and their number as tries, and
+-- what the last turn showed. Older passes, what slots follow and the stale slots are not told.
+abbrev pub seen_of : {Core D Call Reply : Type 0} → (D → Decisions) → Holding Core D Call Reply → Seen
+seen_of decides held = record {
+  manager = held.site.fixed.opening.manager;
+  phase = phase_of (seen_by held.admin);
+  history = map event_of (seen_by held.admin);
+  most = greatest_number held.site;
+  versions = versions_at decides held.site;
+  tries = tries_of (turns_had held.admin);
+  shown = last_shown (turns_had held.admin);
+  older = None;
+  follows = None;
+  stale = None;
+  items = Some (map event_in (turns_had held.admin));
+}
+
+-- one and the same station, and the seats that the administrator made and retired
+pub record IsSameHolding {Core D Call Reply : Type 0} (old new : Holding Core D Call Reply) : Type 0 where
+  pub site : new.site ≡ old.site
+  pub made : seats_made new.admin ≡ seats_made old.admin
+  pub retired : seats_retired new.admin ≡ seats_retired old.admin

@@ -1,0 +1,5 @@
+//! Tests of stations: limits, passes, the cache over three numbers, forced acknowledgements, and threads.
+#![tactic(auto)]
+
+#[cfg(test)]
+mod board;
