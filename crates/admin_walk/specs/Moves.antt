@@ -1,15 +1,23 @@
 -- What lines of the administrator do to a coordinator and its managers.
-use Rattle.std.specs.Prelude.{◌≡◌, ℕ, ◌+◌, ◌<◌, ◌≤◌, ◌⊎◌, Bool, true, false, List, [], ◌∷◌, ◌++◌, All, map, length, slice_get, Option, Some, None, IfSome}
+use Rattle.std.specs.Prelude.{◌≡◌, ℕ, ◌+◌, ◌<◌, ◌≤◌, ◌⊎◌, Bool, true, false, List, [], ◌∷◌, ◌++◌, map, length, slice_get, Option, Some, None, Result, Err, IfSome}
+use Rattle.std.specs.List.{list_all}
 use Rattle.access_vectors.specs.Phases.{number_of, is_pending}
 use Rattle.managed.specs.Seen.{Seen, Turn}
 use Rattle.managed.specs.declared.managed.Event.{Event}
 use Rattle.managed.specs.declared.managed.Event.TheVariants as event
 use Rattle.change_protocol.specs.Changes.{Led, AreBoth}
+use Rattle.change_protocol.specs.declared.answers.NotifyAllFault.{NotifyAllFault}
+use Rattle.change_protocol.specs.declared.answers.NotifyAllFault.TheVariants as faults
 use Rattle.session_text.specs.declared.session.Run.{Run}
 use Rattle.session_text.specs.declared.session.Run.TheVariants as run
 use Rattle.session_text.specs.declared.session.RunLine.{RunLine}
-use Rattle.admin_walk.specs.Walks.{Stand, Given, Rest, IsNoticeTurn, is_clear, Step, Walks, stand_of}
+use Rattle.admin_walk.specs.Walks.{Given, Rest, IsNoticeTurn, is_clear, Step, Walks, stand_of}
 use Rattle.admin_walk.specs.Explained.{Explains}
+
+-- memory was wanted while managers were given a notice
+abbrev pub is_short : Result ℕ NotifyAllFault → Bool
+is_short (Err (faults.Memory reached)) = true
+is_short other = false
 
 -- the notices of turns: number and version of each
 abbrev pub notice_of : Option Event → List (ℕ × ℕ)
@@ -24,9 +32,9 @@ notices_of (turn ∷ turns) = notice_of turn.added ++ notices_of turns
 abbrev pub versions_of : List (ℕ × ℕ) → List ℕ
 versions_of notices = map (λ notice. notice.1) notices
 
--- a turn is clear
-abbrev pub IsClear : Turn → Type 0
-IsClear turn = is_clear turn ≡ true
+-- each of these turns is clear
+abbrev pub AreClear : List Turn → Type 0
+AreClear turns = list_all is_clear turns ≡ true
 
 module _ {Manager : Type 0} (seen : Manager → Seen) where
   -- each manager tells its turns
@@ -104,5 +112,5 @@ module _ {Manager : Type 0} (seen : Manager → Seen) where
     pub grown : (place : ℕ) → AreBoth (λ was now. (turns : List Turn) × (more : List Turn) × ((seen was).items ≡ Some turns) × ((seen now).items ≡ Some (turns ++ more))
         × (notices_of more ≡ chosen)) (slice_get was.managers place) (slice_get now.managers place)
     pub explains : Explains false versions false lines (versions_of chosen)
-    pub at_once : ((place : ℕ) → IfSome (slice_get now.managers place) (λ manager. IfSome (seen manager).items (All IsClear)))
+    pub at_once : ((place : ℕ) → IfSome (slice_get now.managers place) (λ manager. IfSome (seen manager).items AreClear))
         → Explains true versions false lines (versions_of chosen)

@@ -1,9 +1,9 @@
 //! One line of the administrator.
 
-ghost use Rattle.std.specs.Prelude.{◌≡◌, ◌<◌, ℕ, length, slice_get, OnOk, OnErr};
+ghost use Rattle.std.specs.Prelude.{◌≡◌, ◌<◌, ℕ, false, true, length, slice_get, OnOk, OnErr};
 ghost use Rattle.access_vectors.specs.Phases.{number_of};
 ghost use Rattle.change_protocol.specs.Changes.{AreBoth};
-ghost use Rattle.admin_walk.specs.Moves.{IsReady, HasActed, HasStopped};
+ghost use Rattle.admin_walk.specs.Moves.{IsReady, HasActed, HasStopped, is_short};
 
 use access_vectors::Decider;
 use change_protocol::{Coordinator, NotifyAllFault, Said};
@@ -12,6 +12,17 @@ use managed::Managed;
 use session_text::Run;
 use std::alloc::Global;
 use std::sync::Wait;
+
+/// `Memory` exactly where a round of notices wanted memory.
+fn ended(answer: Result<u32, NotifyAllFault>) -> Result<(), Memory>
+    ensures ok { OnOk result (is_short answer ≡ false) }
+    ensures err { OnErr result (is_short answer ≡ true) }
+{
+    match answer {
+        Err(NotifyAllFault::Memory { .. }) => Err(Memory),
+        _ => Ok(()),
+    }
+}
 
 /// Gives each manager its notice of a version, where there is that version and no change is pending.
 fn notify<R: Wait, D: Decider, M: Managed>(
@@ -26,13 +37,8 @@ fn notify<R: Wait, D: Decider, M: Managed>(
     ensures err { OnErr result (HasStopped M.seen (D.decides changes.old.server.decider).versions (Run.Notify ver) changes.old changes.new) }
     ensures same { (place : ℕ) → AreBoth M.same (slice_get changes.old.managers place) (slice_get changes.new.managers place) }
 {
-    let _led = changes.managers();
     let answer = changes.notify_all(rt, alloc, ver);
-    let _still_led = changes.managers();
-    match answer {
-        Err(NotifyAllFault::Memory { .. }) => Err(Memory),
-        _ => Ok(()),
-    }
+    ended(answer)
 }
 
 /// Lets each manager update by at most `k` slots.

@@ -1,0 +1,5 @@
+pub mod Giving
+pub mod Asking
+pub mod Noticing
+pub mod Explaining
+pub mod Walking

@@ -1,0 +1,9 @@
+use Rattle.std.proofs.Common.{false}
+use Rattle.admin_walk.proofs.Asking.{asked_all}
+use Rattle.admin_walk.proofs.lines.acknowledge.Goals as goal
+
+pub returns-clause-acted : goal.returns-clause-acted
+returns-clause-acted g c =
+    let all = c.ack_all.ensures in
+    asked_all g.D.Decider.decides g.M.Managed.seen false _ _ c.args.changes.now c.ack_all.new.self c.ack_all.new.said c.ack_all.result c.requires.ready all.was_led (λ given step. step)
+    all.answer all.idle all.asked all.many all.receipts all.phase all.decider all.most all.reached
