@@ -18,7 +18,7 @@ use Rattle.session_text.specs.declared.session.RunLine.{RunLine}
 use Rattle.admin_walk.specs.Walks.{Stand, Rest, Under, Given, IsOne, IsUpdateTurn, IsNoticeTurn, IsStill, BeginsChange, AsksAll, IsAskedAt, NoticesIf, NotifyStep, AskStep, Step, Walks, stand_at, stand_of, is_clear, adds_any, all_below}
 use Rattle.admin_walk.specs.Explained.{TakesIf, SettlesIf, ExplainsLine, Explains}
 use Rattle.admin_walk.proofs.Giving.{there}
-use Rattle.admin_walk.specs.Moves.{notice_of, notices_of, versions_of, AreClear, HasGrown, HasRun, IsExplained}
+use Rattle.admin_walk.specs.Moves.{notice_of, notices_of, versions_of, AreClear, HasGrown, HasRun, IsExplained, forcing_of, forced_of, is_force, forces}
 
 -- a change is under way
 abbrev pub is_under : Stand → Bool
@@ -51,6 +51,29 @@ notices_asked forced number true turns asked = ap notices_of asked
 notices_asked forced number false turns asked =
     ap notices_of asked.2 ∙ (ap (λ (e : Option Event). notice_of e ++ []) asked.1.added_is ∙ no_notice (is_clear asked.0) forced number)
 
+either_false : (a b : Bool) → (a || b) ≡ false → (a ≡ false) × (b ≡ false)
+either_false true b is = absurd (cc)
+either_false false b is = (refl, is)
+
+forced-append : (xs ys : List Turn) → forced_of (xs ++ ys) ≡ forced_of xs ++ forced_of ys
+forced-append [] ys = refl
+forced-append (x ∷ xs) ys = ap (λ (l : List ℕ). forcing_of x.added ++ l) (forced-append xs ys) ∙ sym (append_assoc (forcing_of x.added) (forced_of xs) (forced_of ys))
+
+forced_one : (is : Turn → Type 0) (added : Option Event) (turns : List Turn) → ((turn : Turn) → is turn → turn.added ≡ added) → IsOne is turns → forced_of turns ≡ forcing_of added ++ []
+forced_one is added turns how one = ap forced_of one.2 ∙ ap (λ (e : Option Event). forcing_of e ++ []) (how one.0 one.1)
+
+no_force : (b : Bool) (number : ℕ) → forcing_of (if b then Some (event.Acknowledgement number false) else None) ++ [] ≡ []
+no_force true number = refl
+no_force false number = refl
+
+forced_asked : (number : ℕ) (was_in : Bool) (turns : List Turn) → IsAskedAt false number was_in turns → forced_of turns ≡ []
+forced_asked number true turns asked = ap forced_of asked
+forced_asked number false turns asked = ap forced_of asked.2 ∙ (ap (λ (e : Option Event). forcing_of e ++ []) asked.1.added_is ∙ no_force (is_clear asked.0) number)
+
+asked_by_force : (forced : Bool) (said : Run) (number : ℕ) (was_in : Bool) (turns : List Turn) → is_force said ≡ forced → is_force said ≡ false → IsAskedAt forced number was_in turns → forced_of turns ≡ []
+asked_by_force true said number was_in turns is unforced asked = absurd (cc)
+asked_by_force false said number was_in turns is unforced asked = forced_asked number was_in turns asked
+
 -- one that was asked, whose turns are clear, has acknowledged
 in_where_clear : (forced : Bool) (number : ℕ) (was_in now_in : Bool) (turns : List Turn) → IsAskedAt forced number was_in turns → now_in ≡ (was_in || adds_any turns) → list_all is_clear turns ≡ true → now_in ≡ true
 in_where_clear forced number true now_in turns asked is clear = is
@@ -69,12 +92,14 @@ pub record Chosen (versions count : ℕ) (pending : Bool) (lines : List RunLine)
   pub chosen : List (ℕ × ℕ)
   pub same : (place : ℕ) → place < count → notices_of (given place) ≡ chosen
   pub explains : Explains false versions pending lines (versions_of chosen)
+  pub unforced : forces lines ≡ false → (place : ℕ) → place < count → forced_of (given place) ≡ []
   pub at_once : ((place : ℕ) → place < count → list_all is_clear (given place) ≡ true) → Explains true versions pending lines (versions_of chosen)
 
 pub record ChosenFrom (versions count : ℕ) (pending : Bool) (said : Run) (lines : List RunLine) (given : Given) : Type 0 where
   pub chosen : List (ℕ × ℕ)
   pub same : (place : ℕ) → place < count → notices_of (given place) ≡ chosen
   pub explains : ExplainsLine false versions pending said (versions_of chosen) (λ now left. Explains false versions now lines left)
+  pub unforced : (is_force said || forces lines) ≡ false → (place : ℕ) → place < count → forced_of (given place) ≡ []
   pub at_once : ((place : ℕ) → place < count → list_all is_clear (given place) ≡ true) → ExplainsLine true versions pending said (versions_of chosen) (λ now left. Explains true versions now lines left)
 
 module _ (versions count : ℕ) (lines : List RunLine) (given first rest : Given) (splits : (place : ℕ) → place < count → given place ≡ first place ++ rest place) where
@@ -83,16 +108,23 @@ module _ (versions count : ℕ) (lines : List RunLine) (given first rest : Given
   joined some more one two place below =
       ap notices_of (splits place below) ∙ (notices-append (first place) (rest place) ∙ (λ i. one place below i ++ two place below i))
 
+  joined_forced : (said : Run) → (is_force said ≡ false → (place : ℕ) → place < count → forced_of (first place) ≡ []) → (forces lines ≡ false → (place : ℕ) → place < count → forced_of (rest place) ≡ [])
+      → (is_force said || forces lines) ≡ false → (place : ℕ) → place < count → forced_of (given place) ≡ []
+  joined_forced said one two is place below =
+      let none = either_false (is_force said) (forces lines) is in
+      ap forced_of (splits place below) ∙ (forced-append (first place) (rest place) ∙ (λ i. one none.0 place below i ++ two none.1 place below i))
+
   parts : (place : ℕ) → place < count → list_all is_clear (given place) ≡ true → (list_all is_clear (first place) ≡ true) × (list_all is_clear (rest place) ≡ true)
   parts place below clear = both_true (list_all is_clear (first place)) (list_all is_clear (rest place))
       (sym (list_all-append is_clear (first place) (rest place)) ∙ (ap (list_all is_clear) (sym (splits place below)) ∙ clear))
 
   -- a line that gives no notice and leaves whether a change is pending
-  stays : (pending now : Bool) (said : Run) → now ≡ pending → ((place : ℕ) → place < count → notices_of (first place) ≡ [])
+  stays : (pending now : Bool) (said : Run) → now ≡ pending → ((place : ℕ) → place < count → notices_of (first place) ≡ []) → ((place : ℕ) → place < count → forced_of (first place) ≡ [])
       → ((always : Bool) (left : List ℕ) → Explains always versions pending lines left → ExplainsLine always versions pending said left (λ now left. Explains always versions now lines left))
       → Chosen versions count now lines rest → ChosenFrom versions count pending said lines given
-  stays pending now said same none so later = record {
+  stays pending now said same none unforced so later = record {
     chosen = later.chosen;
+    unforced = joined_forced said (λ _. unforced) later.unforced;
     same = joined [] later.chosen none later.same;
     explains = so false (versions_of later.chosen) (subst (λ (b : Bool). Explains false versions b lines (versions_of later.chosen)) same later.explains);
     at_once = λ clear. so true (versions_of later.chosen) (subst (λ (b : Bool). Explains true versions b lines (versions_of later.chosen)) same
@@ -104,6 +136,7 @@ module _ (versions count : ℕ) (lines : List RunLine) (given first rest : Given
       → ChosenFrom versions count false (run.Notify version) lines given
   takes number version next known begun later = record {
     chosen = (number, version) ∷ later.chosen;
+    unforced = joined_forced (run.Notify version) (λ _ place below. forced_one (IsNoticeTurn number version) (Some (event.Notice number version)) (first place) (λ turn is. is.notice) (begun.notices place below)) later.unforced;
     same = joined ((number, version) ∷ []) later.chosen (λ place below. notices_one (IsNoticeTurn number version) (Some (event.Notice number version)) (first place) (λ turn is. is.notice) (begun.notices place below)) later.same;
     explains = subst (λ (b : Bool). TakesIf (b && true) version false (version ∷ versions_of later.chosen) (λ now left. Explains false versions now lines left)) (sym known)
         (versions_of later.chosen, refl, subst (λ (b : Bool). Explains false versions b lines (versions_of later.chosen)) (ap is_under begun.next_is) later.explains);
@@ -124,11 +157,12 @@ module _ (versions count : ℕ) (lines : List RunLine) (given first rest : Given
   settles always true left explains = inr explains
   settles always false left explains = inl explains
 
-  asks : (forced : Bool) (said : Run) (number : ℕ) (receipts : List Bool) (next : Stand) → AsksAll forced count number receipts first next
+  asks : (forced : Bool) (said : Run) (number : ℕ) (receipts : List Bool) (next : Stand) → is_force said ≡ forced → AsksAll forced count number receipts first next
       → ((always : Bool) (left : List ℕ) → SettlesIf always true left (λ now left. Explains always versions now lines left) → ExplainsLine always versions true said left (λ now left. Explains always versions now lines left))
       → Chosen versions count (is_under next) lines rest → ChosenFrom versions count true said lines given
-  asks forced said number receipts next all so later = record {
+  asks forced said number receipts next same_force all so later = record {
     chosen = later.chosen;
+    unforced = joined_forced said (λ unforced place below. asked_by_force forced said number (is_in receipts place) (first place) same_force unforced (all.asked place below)) later.unforced;
     same = joined [] later.chosen (λ place below. notices_asked forced number (is_in receipts place) (first place) (all.asked place below)) later.same;
     explains = so false (versions_of later.chosen) (settles false (is_under next) (versions_of later.chosen) later.explains);
     at_once = λ clear.
@@ -142,31 +176,32 @@ module _ (versions count : ℕ) (lines : List RunLine) (given first rest : Given
   notified_by (Rest number) next version step later =
       elim (nat_lt version versions) as (λ (b : Bool). nat_lt version versions ≡ b → NoticesIf b count number version first next → ChosenFrom versions count false (run.Notify version) lines given) [
         | true ↦ λ known step. takes (number + 1) version next known step later
-        | false ↦ λ unknown step. stays false (is_under next) (run.Notify version) (ap is_under step.1) (λ place below. ap notices_of (step.0 place below))
+        | false ↦ λ unknown step. stays false (is_under next) (run.Notify version) (ap is_under step.1) (λ place below. ap notices_of (step.0 place below)) (λ place below. ap forced_of (step.0 place below))
             (λ always left explains. subst (λ (b : Bool). TakesIf (b && true) version false left (λ now left. Explains always versions now lines left)) (sym unknown) explains) later
       ] refl step
   notified_by (Under number receipts) next version step later =
-      stays true (is_under next) (run.Notify version) (ap is_under step.1) (λ place below. ap notices_of (step.0 place below))
+      stays true (is_under next) (run.Notify version) (ap is_under step.1) (λ place below. ap notices_of (step.0 place below)) (λ place below. ap forced_of (step.0 place below))
       (λ always left explains. subst (λ (b : Bool). TakesIf b version true left (λ now left. Explains always versions now lines left)) (sym (and_not (nat_lt version versions))) explains) later
 
-  asked_by : (forced : Bool) (said : Run) (at next : Stand) → AskStep forced count at first next
+  asked_by : (forced : Bool) (said : Run) (at next : Stand) → is_force said ≡ forced → AskStep forced count at first next
       → ((always pending : Bool) (left : List ℕ) → SettlesIf always pending left (λ now left. Explains always versions now lines left) → ExplainsLine always versions pending said left (λ now left. Explains always versions now lines left))
       → Chosen versions count (is_under next) lines rest → ChosenFrom versions count (is_under at) said lines given
-  asked_by forced said (Rest number) next step so later =
-      stays false (is_under next) said (ap is_under step.1) (λ place below. ap notices_of (step.0 place below)) (λ always left explains. so always false left explains) later
-  asked_by forced said (Under number receipts) next step so later = asks forced said number receipts next step (λ always left settled. so always true left settled) later
+  asked_by forced said (Rest number) next same_force step so later =
+      stays false (is_under next) said (ap is_under step.1) (λ place below. ap notices_of (step.0 place below)) (λ place below. ap forced_of (step.0 place below)) (λ always left explains. so always false left explains) later
+  asked_by forced said (Under number receipts) next same_force step so later = asks forced said number receipts next same_force step (λ always left settled. so always true left settled) later
 
   still_by : (at next : Stand) (said : Run) → IsStill count at first next
       → ((always : Bool) (left : List ℕ) → Explains always versions (is_under at) lines left → ExplainsLine always versions (is_under at) said left (λ now left. Explains always versions now lines left))
       → Chosen versions count (is_under next) lines rest → ChosenFrom versions count (is_under at) said lines given
-  still_by at next said step so later = stays (is_under at) (is_under next) said (ap is_under step.1) (λ place below. ap notices_of (step.0 place below)) so later
+  still_by at next said step so later = stays (is_under at) (is_under next) said (ap is_under step.1) (λ place below. ap notices_of (step.0 place below)) (λ place below. ap forced_of (step.0 place below)) so later
 
   line_by : (at next : Stand) (said : Run) → Step versions count at said first next → Chosen versions count (is_under next) lines rest → ChosenFrom versions count (is_under at) said lines given
   line_by at next (run.Update most) step later =
-      stays (is_under at) (is_under next) (run.Update most) (ap is_under step.1) (λ place below. notices_one (IsUpdateTurn most) None (first place) (λ turn is. is.nothing) (step.0 place below)) (λ always left explains. explains) later
+      stays (is_under at) (is_under next) (run.Update most) (ap is_under step.1) (λ place below. notices_one (IsUpdateTurn most) None (first place) (λ turn is. is.nothing) (step.0 place below))
+      (λ place below. forced_one (IsUpdateTurn most) None (first place) (λ turn is. is.nothing) (step.0 place below)) (λ always left explains. explains) later
   line_by at next (run.Notify version) step later = notified_by at next version step later
-  line_by at next run.Ack step later = asked_by false run.Ack at next step (λ always pending left settled. settled) later
-  line_by at next run.Force step later = asked_by true run.Force at next step (λ always pending left settled. settled) later
+  line_by at next run.Ack step later = asked_by false run.Ack at next refl step (λ always pending left settled. settled) later
+  line_by at next run.Force step later = asked_by true run.Force at next refl step (λ always pending left settled. settled) later
   line_by at next (run.File client call) step later = still_by at next (run.File client call) step (λ always left explains. explains) later
   line_by at next (run.Process client call) step later = still_by at next (run.Process client call) step (λ always left explains. explains) later
   line_by at next (run.Port client call) step later = still_by at next (run.Port client call) step (λ always left explains. explains) later
@@ -174,22 +209,22 @@ module _ (versions count : ℕ) (lines : List RunLine) (given first rest : Given
   line_by at next (run.End client manager) step later = still_by at next (run.End client manager) step (λ always left explains. explains) later
 
 chosen_by : (versions count : ℕ) (at end : Stand) (lines : List RunLine) (given : Given) → Walks versions count at lines given end → Chosen versions count (is_under at) lines given
-chosen_by versions count at end [] given walks = record { chosen = []; same = λ place below. ap notices_of (walks.0 place below); explains = refl; at_once = λ _. refl }
+chosen_by versions count at end [] given walks = record { chosen = []; same = λ place below. ap notices_of (walks.0 place below); unforced = λ _ place below. ap forced_of (walks.0 place below); explains = refl; at_once = λ _. refl }
 chosen_by versions count at end (line ∷ lines) given walks =
     let from = line_by versions count lines given walks.0 walks.1 walks.3 at walks.2 line.run walks.4 (chosen_by versions count walks.2 end lines walks.1 walks.5) in
-    record { chosen = from.chosen; same = from.same; explains = from.explains; at_once = from.at_once }
+    record { chosen = from.chosen; same = from.same; unforced = from.unforced; explains = from.explains; at_once = from.at_once }
 
 under_pending : (phase : Phase) (receipts : List Bool) → is_under (stand_at phase receipts) ≡ is_pending phase
 under_pending (Settled number version) receipts = refl
 under_pending (Pending number old new) receipts = refl
 
 module _ {Manager : Type 0} (seen : Manager → Seen) where
-  with_notices : (chosen : List (ℕ × ℕ)) (more : List Turn) (was now : Option Manager) → ((x : Manager) → was ≡ Some x → notices_of more ≡ chosen) → AreBoth (HasGrown seen more) was now
-      → AreBoth (λ was now. (turns : List Turn) × (more : List Turn) × ((seen was).items ≡ Some turns) × ((seen now).items ≡ Some (turns ++ more)) × (notices_of more ≡ chosen)) was now
-  with_notices chosen more None None known grown = tt
-  with_notices chosen more None (Some y) known grown = absurd grown
-  with_notices chosen more (Some x) None known grown = absurd grown
-  with_notices chosen more (Some x) (Some y) known grown = (grown.0, more, grown.1, grown.2, known x refl)
+  with_notices : (lines : List RunLine) (chosen : List (ℕ × ℕ)) (more : List Turn) (was now : Option Manager) → ((x : Manager) → was ≡ Some x → (notices_of more ≡ chosen) × (forces lines ≡ false → forced_of more ≡ [])) → AreBoth (HasGrown seen more) was now
+      → AreBoth (λ was now. (turns : List Turn) × (more : List Turn) × ((seen was).items ≡ Some turns) × ((seen now).items ≡ Some (turns ++ more)) × (notices_of more ≡ chosen) × (forces lines ≡ false → forced_of more ≡ [])) was now
+  with_notices lines chosen more None None known grown = tt
+  with_notices lines chosen more None (Some y) known grown = absurd grown
+  with_notices lines chosen more (Some x) None known grown = absurd grown
+  with_notices lines chosen more (Some x) (Some y) known grown = (grown.0, more, grown.1, grown.2, (known x refl).0, (known x refl).1)
 
   clear_items : (items : Option (List Turn)) (turns more : List Turn) → items ≡ Some (turns ++ more) → IfSome items AreClear → list_all is_clear more ≡ true
   clear_items None turns more is clear = absurd (cc)
@@ -211,8 +246,8 @@ module _ {Manager : Type 0} (seen : Manager → Seen) where
       let rests : is_under (stand_of was.server) ≡ false = under_pending was.server.phase was.server.receipts ∙ settled in
       record {
         chosen = chosen.chosen;
-        grown = λ place. with_notices chosen.chosen (ran.given place) (slice_get was.managers place) (slice_get now.managers place)
-            (λ x is. chosen.same place (slice_get_within was.managers place x is)) (ran.grown place);
+        grown = λ place. with_notices lines chosen.chosen (ran.given place) (slice_get was.managers place) (slice_get now.managers place)
+            (λ x is. let below = slice_get_within was.managers place x is in (chosen.same place below, λ none. chosen.unforced none place below)) (ran.grown place);
         explains = subst (λ (b : Bool). Explains false versions b lines (versions_of chosen.chosen)) rests chosen.explains;
         at_once = λ clear. subst (λ (b : Bool). Explains true versions b lines (versions_of chosen.chosen)) rests
             (chosen.at_once (λ place below. let one = there was.managers place below in

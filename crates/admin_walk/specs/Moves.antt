@@ -1,5 +1,5 @@
 -- What lines of the administrator do to a coordinator and its managers.
-use Rattle.std.specs.Prelude.{◌≡◌, ℕ, ◌+◌, ◌<◌, ◌≤◌, ◌⊎◌, Bool, true, false, List, [], ◌∷◌, ◌++◌, map, length, slice_get, Option, Some, None, Result, Err, IfSome}
+use Rattle.std.specs.Prelude.{◌≡◌, ℕ, ◌+◌, ◌<◌, ◌≤◌, ◌⊎◌, Bool, true, false, ◌||◌, List, [], ◌∷◌, ◌++◌, map, length, slice_get, Option, Some, None, Result, Err, IfSome}
 use Rattle.std.specs.List.{list_all}
 use Rattle.access_vectors.specs.Phases.{number_of, is_pending}
 use Rattle.managed.specs.Seen.{Seen, Turn}
@@ -27,6 +27,24 @@ notice_of other = []
 abbrev pub notices_of : List Turn → List (ℕ × ℕ)
 notices_of [] = []
 notices_of (turn ∷ turns) = notice_of turn.added ++ notices_of turns
+
+-- the numbers that turns acknowledged by force
+abbrev pub forcing_of : Option Event → List ℕ
+forcing_of (Some (event.Acknowledgement number true)) = number ∷ []
+forcing_of other = []
+
+abbrev pub forced_of : List Turn → List ℕ
+forced_of [] = []
+forced_of (turn ∷ turns) = forcing_of turn.added ++ forced_of turns
+
+-- some of the lines forces acknowledgements
+abbrev pub is_force : Run → Bool
+is_force run.Force = true
+is_force other = false
+
+abbrev pub forces : List RunLine → Bool
+forces [] = false
+forces (line ∷ lines) = is_force line.run || forces lines
 
 -- the versions of notices
 abbrev pub versions_of : List (ℕ × ℕ) → List ℕ
@@ -105,12 +123,12 @@ module _ {Manager : Type 0} (seen : Manager → Seen) where
     pub walks : Walks versions (length was.managers) (stand_of was.server) done given (Rest number)
     pub grown : (place : ℕ) → AreBoth (HasGrownShort (given place) (number + 1) version) (slice_get was.managers place) (slice_get now.managers place)
 
-  -- all managers had the same notices more, and the lines explain their versions; and where no manager had a turn that found a stale
+  -- all managers had the same notices more, and the lines explain their versions; no acknowledgement was forced unless a line forces; and where no manager had a turn that found a stale
   -- slot or counted an older pass, they explain them with each acknowledgement of a pending change settling it
   pub record IsExplained {Decider : Type 0} (versions : ℕ) (lines : List RunLine) (was now : Led Decider Manager) : Type 0 where
     pub chosen : List (ℕ × ℕ)
     pub grown : (place : ℕ) → AreBoth (λ was now. (turns : List Turn) × (more : List Turn) × ((seen was).items ≡ Some turns) × ((seen now).items ≡ Some (turns ++ more))
-        × (notices_of more ≡ chosen)) (slice_get was.managers place) (slice_get now.managers place)
+        × (notices_of more ≡ chosen) × (forces lines ≡ false → forced_of more ≡ [])) (slice_get was.managers place) (slice_get now.managers place)
     pub explains : Explains false versions false lines (versions_of chosen)
     pub at_once : ((place : ℕ) → IfSome (slice_get now.managers place) (λ manager. IfSome (seen manager).items AreClear))
         → Explains true versions false lines (versions_of chosen)
