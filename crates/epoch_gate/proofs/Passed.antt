@@ -1,7 +1,7 @@
 -- A pass that is held, by its number and version.
 use Rattle.std.proofs.Common.{◌≡◌, ℕ, List, refl, subst}
 use Rattle.gate_rule.specs.declared.view.Role.{Role}
-use Rattle.gate_rule.specs.declared.view.Role.TheVariants.{Spent, Caller, Admin}
+use Rattle.gate_rule.specs.declared.view.Role.TheVariants.{Caller}
 use Rattle.gate_rule.specs.declared.view.View.{View}
 use Rattle.gate_rule.specs.History.{Kind}
 use Rattle.gate_rule.specs.Told.{Learns, IsAllowed}

@@ -141,6 +141,10 @@ module _ {E D O : Type 0} where
   abbrev pub stale_left : Shown E D O → ℕ
   stale_left a = a.view.desk.left
 
+  -- each used slot of the value that it gave back last: its place, and the policy number that it followed
+  abbrev pub slots_given : Shown E D O → List (ℕ × ℕ)
+  slots_given a = a.view.desk.given
+
   -- the turns that a seat had, newest last
   abbrev pub turns_had : Shown E D O → List (Item E)
   turns_had a = a.view.desk.turns

@@ -9,7 +9,7 @@ ghost use Rattle.gate_rule.specs.Views;
 ghost use Rattle.gate_rule.specs.Told.{Takes, Stands, IsNamed};
 ghost use Rattle.epoch_gate.specs.Seats.{IsAt, IsOfGate};
 ghost use Rattle.epoch_gate.specs.Known.{IsIdle, HasTurn, seen_by, own_entries, caller_number, pass_held, slots_followed, found_last};
-ghost use Rattle.epoch_gate.specs.Known.{older_shown, stale_found, stale_left, turns_had};
+ghost use Rattle.epoch_gate.specs.Known.{older_shown, stale_found, stale_left, slots_given, turns_had};
 ghost use Rattle.epoch_gate.specs.Calls.{HasLookedUntil, HasWaited, HasTaken, HasGiven, LearnsAsCaller, LearnsAsAdmin};
 ghost use Rattle.epoch_gate.specs.Calls.{ExtendsAsCaller, ExtendsAsAdmin, IsValueOf, IsSameCaller, IsSameAdmin, StoodWaiting, StoodAt};
 
@@ -121,6 +121,7 @@ impl<'d, V: Journal<D>, D: Decider> Gate<'d, V, D> {
         ensures seen { seen_by admin.new ≡ V.means.history value }
         ensures found { stale_found admin.new ≡ stale_found admin.old }
         ensures left { stale_left admin.new ≡ length (V.means.stale value) }
+        ensures given { slots_given admin.new ≡ maps.entries (V.means.follows value) }
         ensures turns { turns_had admin.new ≡ turns_had admin.old ++ item_of V.means admin.old.view value ∷ [] }
         ensures same { IsSameAdmin admin.old admin.new }
         ensures idle { IsIdle admin.new }

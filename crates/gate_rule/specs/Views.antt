@@ -102,7 +102,7 @@ entries_of (i ∷ is) = with_entry i.entry (entries_of is)
 module _ {E : Type 0} where
   -- a desk on which nothing was done
   abbrev pub blank_desk : Desk E
-  blank_desk = record { made = 0; ended = []; newest = 0; version = 0; counted = 0; clear = 0; looked = None; found = 0; left = 0; turns = [] }
+  blank_desk = record { made = 0; ended = []; newest = 0; version = 0; counted = 0; clear = 0; looked = None; found = 0; left = 0; given = []; turns = [] }
 
 -- the quota of a seat of the gate
 abbrev pub quota_in : {D O : Type 0} → Option (Fixed D O) → ℕ
@@ -236,5 +236,5 @@ module _ {V E D O : Type 0} (M : Means V E D O) where
     trace = traced v.trace (done 4 n (one_more n));
     seen = M.history y;
     mine = mine_in v.role v.mine (M.history y);
-    desk = record v.desk { left = length (M.stale y); turns = v.desk.turns ++ item_of v y ∷ [] };
+    desk = record v.desk { left = length (M.stale y); given = maps.entries (M.follows y); turns = v.desk.turns ++ item_of v y ∷ [] };
   }

@@ -81,6 +81,8 @@ pub struct Desk<E> {
     /// The stale slots of the value taken last, and of the value given back last.
     pub found: u64,
     pub left: u64,
+    /// The policy number that each used slot followed in the value given back last, with the slot's place.
+    pub given: LinkedList<(u64, u64)>,
     pub turns: LinkedList<Item<E>>,
 }
 

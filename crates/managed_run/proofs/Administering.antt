@@ -1,7 +1,7 @@
 -- What the administrator's calls do to what is seen of a manager behind its gate.
-use Rattle.std.proofs.Common.{◌≡◌, ℕ, ◌+◌, ◌-◌, ◌≤◌, ◌^◌, min, Bool, true, false, List, [], ◌∷◌, ◌++◌, map, length, refl, sym, ap, ◌∙◌, subst, inl, inr, append-nil, append_assoc, length-append, Option, Some, None, option_map, Result, Ok, Err, arith}
-use Rattle.std.specs.Prelude.{All, IfOk, IfErr, OnErr, IsTrue, if◌then◌else◌}
-use Rattle.std.specs.List.{fold, filter}
+use Rattle.std.proofs.Common.{◌≡◌, ℕ, ◌+◌, ◌-◌, min, Bool, true, false, List, [], ◌∷◌, ◌++◌, map, refl, sym, ap, ◌∙◌, subst, inr, append-nil, length-append, Option, Some, None, option_map, Result, Ok, Err, arith}
+use Rattle.std.specs.Prelude.{All, IfOk, IfErr, OnErr, if◌then◌else◌}
+use Rattle.std.specs.List.{fold}
 use Rattle.std.proofs.lemmas.List.{map-append}
 use Rattle.std.proofs.lemmas.List.Elements.{All-nil, All-cons, All-push, filter-append}
 use Rattle.std.proofs.lemmas.List.Sums.{fold_push}
@@ -22,13 +22,13 @@ use Rattle.managed.specs.declared.managed.Event.{Event}
 use Rattle.managed.specs.declared.managed.Event.TheVariants as event
 use Rattle.managed.specs.declared.managed.Shown.{Shown as Showing}
 use Rattle.gate_rule.specs.declared.view.Item.{Item}
-use Rattle.gate_rule.specs.History.{Kind, is_control, controls, phase_after, phase_in}
-use Rattle.epoch_gate.specs.Seats.{Shown, IsOfGate}
-use Rattle.epoch_gate.specs.Known.{seen_by, seats_made, turns_had, stale_found, stale_left, IsIdle}
+use Rattle.gate_rule.specs.History.{is_control, controls, phase_after}
+use Rattle.epoch_gate.specs.Seats.{Shown}
+use Rattle.epoch_gate.specs.Known.{seen_by, turns_had, stale_found, stale_left}
 use Rattle.managed_run.specs.declared.docket.Opened.{Opened}
 use Rattle.managed_run.specs.Kinds.{kind_of, phase_of}
-use Rattle.managed_run.specs.Changes.{HasFound, HasTurned, HasNotified, HasTurnedNone, HasAcknowledged, HasCounted, KeepsSeats, counts_passes, entries_if, item_if}
-use Rattle.managed_run.specs.Administering.{or_none, showing, last_shown, tries_of, IsClear, Holding, IsHolding, turn_of, seen_of}
+use Rattle.managed_run.specs.Changes.{HasFound, HasNotified, HasTurnedNone, HasAcknowledged, HasCounted, counts_passes, entries_if, item_if, or_none, IsClear}
+use Rattle.managed_run.specs.Administering.{showing, last_shown, tries_of, Holding, turn_of, seen_of}
 
 stays_empty : {A : Type 0} (xs ys : List A) → xs ++ ys ≡ xs → ys ≡ []
 stays_empty [] ys e = e

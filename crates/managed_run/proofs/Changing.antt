@@ -1,8 +1,9 @@
 -- What the administrator's turns at a station leave of what it knows.
-use Rattle.std.proofs.Common.{◌≡◌, ◌≢◌, ℕ, ◌+◌, ◌<◌, ◌≤◌, Bool, true, false, nat_lt, eqb, List, [], ◌∷◌, ◌++◌, length, refl, sym, ap, ◌∙◌, subst, inl, inr, eq-eqb, ne_eqb, append-nil, Option, Some, None, arith}
-use Rattle.std.specs.Prelude.{if◌then◌else◌, IsTrue}
+use Rattle.std.proofs.Common.{◌≡◌, ◌≢◌, ℕ, ◌+◌, ◌<◌, ◌≤◌, Bool, true, false, nat_lt, eqb, List, [], ◌∷◌, ◌++◌, length, refl, sym, ap, ◌∙◌, subst, inl, inr, eq-eqb, append-nil, Option, Some, None, arith}
+use Rattle.std.specs.Prelude.{All, if◌then◌else◌, IsTrue}
+use Rattle.std.proofs.lemmas.List.Elements.{All-push}
 use Rattle.std.proofs.lemmas.Bool.Decides.{nat_tests}
-use Rattle.access_vectors.specs.Phases.{number_of, settled_number, is_pending, acknowledged}
+use Rattle.access_vectors.specs.Phases.{number_of, settled_number, version_at, is_pending, acknowledged}
 use Rattle.access_vectors.specs.Notices.{notice_fault}
 use Rattle.access_vectors.specs.declared.change.NotifyFault.TheVariants as faults
 use Rattle.access_vectors.specs.declared.phase.Phase.{Phase}
@@ -14,19 +15,18 @@ use Rattle.manager_history.specs.declared.answers.Ack.TheVariants as acks
 use Rattle.manager_history.specs.Histories.{acknowledgement}
 use Rattle.manager_history.specs.Kept.{Kept, ack_answer, is_done}
 use Rattle.gate_rule.specs.declared.view.StepDone.{StepDone}
-use Rattle.gate_rule.specs.declared.view.Trace.{Trace}
 use Rattle.gate_rule.specs.declared.view.View.{View}
-use Rattle.gate_rule.specs.declared.view.Role.TheVariants.{Admin}
-use Rattle.gate_rule.specs.History.{Kind, noticed, last_notice}
+use Rattle.gate_rule.specs.History.{last_notice, Alternates}
 use Rattle.gate_rule.specs.History.Kind.{Notice as ANotice, Ack as AnAck}
-use Rattle.gate_rule.specs.Views.{leave_word, done, traced, one_more, entry_added}
+use Rattle.gate_rule.specs.Views.{leave_word, done, entry_added}
 use Rattle.gate_rule.proofs.Histories.{nothing_added, one_added, notice_more}
 use Rattle.epoch_gate.specs.Seats.{Shown}
-use Rattle.epoch_gate.specs.Known.{seen_by, step_before, found_before, found_last, seats_made, seats_retired, current_number, current_version, passes_counted, cleared_below, older_shown, stale_found, stale_left, turns_had}
+use Rattle.epoch_gate.specs.Known.{seen_by, seats_made, seats_retired, current_number, current_version, passes_counted, cleared_below, older_shown, stale_found, stale_left, slots_given, turns_had}
 use Rattle.epoch_gate.specs.Calls.{ExtendsAsAdmin}
 use Rattle.managed_run.specs.Kinds.{kind_of, phase_of}
 use Rattle.access_vectors.specs.declared.change.Receipt.{Receipt}
-use Rattle.managed_run.specs.Changes.{HasTurned, HasLooked, HasCounted, HasAcknowledged, IsSettled, counts_passes, entries_if, item_if}
+use Rattle.managed_run.specs.Changes.{HasTurned, HasLooked, HasCounted, HasAcknowledged, IsSettled, IsClear, AllFollow, IsCurrent, StaysClear, counts_passes, entries_if, item_if, or_none}
+use Rattle.managed_run.proofs.Reading.{newest_is, version_is}
 
 -- why a notice was allowed: nothing is pending, there is such a version, and the number is not the greatest
 pub allowed_is : (phase : Phase) (versions version most : ℕ) → notice_fault phase versions version most ≡ None → (is_pending phase ≡ false) × (version < versions) × (number_of phase ≢ most)
@@ -126,6 +126,31 @@ module _ {Call Reply : Type 0} where
     cleared_by true older w x h is none = h.3 none
     cleared_by false older w x h is none = absurd (cc)
 
+-- an acknowledgement, done or not, leaves the last notice
+pub last_ack : {Call Reply : Type 0} (b forced : Bool) (log log' : List (Entry Call Reply)) (number : ℕ) → log' ≡ log ++ entries_if b (acknowledgement forced number) → last_notice kind_of log' ≡ last_notice kind_of log
+last_ack false forced log log' number more = ap (last_notice kind_of) (more ∙ append-nil log)
+last_ack true true log log' number more = ap (last_notice kind_of) more ∙ notice_more kind_of log (entry.Forced number)
+last_ack true false log log' number more = ap (last_notice kind_of) more ∙ notice_more kind_of log (entry.Ack number)
+
+module _ {Call Reply D O : Type 0} where
+  -- the current number is the newest of the history given back
+  pub current_is : (versions : ℕ) (log : List (Entry Call Reply)) → Alternates kind_of versions 0 0 log → (b : Shown (Entry Call Reply) D O) → seen_by b ≡ log
+      → last_notice kind_of log ≡ (current_number b, current_version b) → IsCurrent b
+  current_is versions log alternates b seen last = record {
+    number = sym (ap (λ (p : ℕ × ℕ). p.0) last) ∙ (newest_is kind_of versions log alternates ∙ ap (λ (l : List (Entry Call Reply)). number_of (phase_of l)) (sym seen));
+    version = sym (ap (λ (p : ℕ × ℕ). p.1) last) ∙ (version_is kind_of versions log alternates ∙ (λ i. version_at (phase_of (sym seen i)) ((last i).0)));
+  }
+
+  -- where no seat is made no older pass is counted
+  pub none_counted : (p : Bool) (older : ℕ) (looked : Option ℕ) (a b : Shown (Entry Call Reply) D O) → HasCounted p older looked a b → seats_made a ≡ 0 → or_none looked ≡ 0
+  none_counted true older looked a b h none = ap or_none h.0 ∙ (let few = h.3 in omega (arith, few, none))
+  none_counted false older looked a b h none = ap or_none h.0
+
+  -- one more turn that is clear
+  pub stays_clear : (added : Option (Entry Call Reply)) (looked : Option ℕ) (a b : Shown (Entry Call Reply) D O) → HasTurned added looked a b → (seats_made a ≡ 0 → stale_found b ≡ 0) → (seats_made a ≡ 0 → or_none looked ≡ 0) → StaysClear a b
+  stays_clear added looked a b turn found older = λ none clear.
+      subst (All IsClear) (sym turn) (All-push IsClear (turns_had a) (record { entry = added; looked = looked; found = stale_found b; left = stale_left b }) clear (record { found = found none; older = older none }))
+
 -- where nothing is pending the settled number is the newest
 pub same_number : (phase : Phase) → is_pending phase ≡ false → settled_number phase ≡ number_of phase
 same_number (Settled number version) is = refl
@@ -168,5 +193,6 @@ module _ {Call Reply D O : Type 0} where
           seen = told.seen ∙ (λ i. told.before ++ acknowledgement forced (named.1 i) ∷ []);
           turn = told.turn ∙ (λ i. turns_had a ++ (record { entry = Some (acknowledgement forced (named.1 i)); looked = looked i; found = means.2 i; left = (told.left ∙ means.2) i }) ∷ []);
           cleared = λ plain. told.cleared plain refl ∙ named.1;
+          follow = subst (λ (n : ℕ). AllFollow n (slots_given b)) named.1 (told.given refl);
         },
       )

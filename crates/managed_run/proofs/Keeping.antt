@@ -1,5 +1,5 @@
 -- That a keeper, after it was worked with under a turn, still is one of its station.
-use Rattle.std.proofs.Common.{◌≡◌, ℕ, Bool, true, false, List, [], ◌∷◌, ◌++◌, refl, sym, ap, ◌∙◌, subst, inl, inr, eq-eqb, map, length, Option, Some, None, arith}
+use Rattle.std.proofs.Common.{◌≡◌, ℕ, Bool, true, false, List, [], ◌∷◌, ◌++◌, refl, sym, ap, ◌∙◌, subst, eq-eqb, map, length, Option, arith}
 use Rattle.std.specs.Prelude.{if◌then◌else◌, Result, Ok, Err, OnOk, OnErr, IsTrue}
 use Rattle.std.specs.List.{filter}
 use Rattle.std.specs.FinMap as maps
@@ -19,13 +19,14 @@ use Rattle.manager_history.specs.Answers.{Manager}
 use Rattle.manager_history.specs.Histories.{Moment, moment, start_of, replay, greatest_forced, answer_at, entry_at, operation, IsLawful}
 use Rattle.manager_history.specs.declared.answers.Ack.{Ack}
 use Rattle.manager_history.specs.Kept.{Kept, stale_in, is_done}
-use Rattle.gate_rule.specs.History.{Kind, is_by, of_caller, StartsWith}
+use Rattle.gate_rule.specs.History.{is_by, of_caller, StartsWith}
 use Rattle.gate_rule.specs.History.Kind.{Call as ACall}
 use Rattle.gate_rule.proofs.Histories.{of_caller_own, of_caller_other}
 use Rattle.gate_rule.specs.Told.{LearnsAdmin}
 use Rattle.epoch_gate.specs.Seats.{Shown}
 use Rattle.epoch_gate.specs.Known.{seen_by, stale_found}
-use Rattle.managed_run.specs.Changes.{HasFound}
+use Rattle.std.proofs.lemmas.List.Elements.{All-nil, All-cons}
+use Rattle.managed_run.specs.Changes.{HasFound, AllFollow}
 use Rattle.managed_run.specs.Kinds.{kind_of, IsUncalled}
 use Rattle.managed_run.specs.Dockets.{IsFrom}
 use Rattle.managed_run.proofs.Reading.{phase_replayed}
@@ -91,6 +92,14 @@ module _ {Call Reply : Type 0} where
 pub unused_mapped : (f : ℕ → ℕ → ℕ) (m : Follows) → maps.entries m ≡ [] → maps.entries (mapped f m) ≡ []
 unused_mapped f m none = entries-mapped f m ∙ ap (entries_mapped f) none
 
+follow_each : (number : ℕ) (es : List (ℕ × ℕ)) → AllFollow number (entries_mapped (λ place before. number) es)
+follow_each number [] = All-nil (λ slot. slot.1 ≡ number)
+follow_each number (e ∷ es) = All-cons (λ slot. slot.1 ≡ number) (e.0, number) (entries_mapped (λ place before. number) es) refl (follow_each number es)
+
+-- where each slot was let follow a number, each follows it
+pub all_follow : (number : ℕ) (m : Follows) → AllFollow number (maps.entries (all_following number m))
+all_follow number m = subst (AllFollow number) (sym (entries-mapped (λ place before. number) m)) (follow_each number (maps.entries m))
+
 -- where no slot is used none is stale
 none_stale : (d : Decisions) (class : Class) (phase : Phase) (pair_of : ℕ → Option Pair) (follows : Follows) → maps.entries follows ≡ [] → stale_slots d class phase pair_of follows ≡ []
 none_stale d class phase pair_of follows none = ap (λ (es : List (ℕ × ℕ)). filter (λ place. is_stale_pair d class phase (pair_of place) (maps.get follows place)) (map (λ e. e.0) es)) none
@@ -114,6 +123,7 @@ module _ {Core Decider Call Reply State D O : Type 0} (plain : Manager Call Repl
     changes = learns.1.controls_are;
     known = learns.1.known;
     clear = λ none. found ∙ ap length (from.stale_is ∙ none_stale d class now.phase (pair_of (state now.core)) (follows now.core) (from.unused (λ n. learns.1.unmade n (omega arith))));
+    rests = λ is. found ∙ ap length (from.stale_is ∙ settled_stale d class now.phase (pair_of (state now.core)) (follows now.core) (ap is_pending from.phase ∙ is));
   }
 
 module _ {Core Decider Call Reply : Type 0} where

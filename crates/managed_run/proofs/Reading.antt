@@ -1,10 +1,11 @@
 -- What a lawful history says of phase, numbers and state.
-use Rattle.std.proofs.Common.{◌≡◌, ◌≢◌, ℕ, ◌+◌, ◌-◌, ◌<◌, ◌≤◌, ◌⊎◌, Bool, true, false, nat_lt, List, [], ◌∷◌, refl, sym, ap, ◌∙◌, subst, inl, inr, ⊎_elim, Some, arith}
+use Rattle.std.proofs.Common.{◌≡◌, ◌≢◌, ℕ, ◌<◌, ◌≤◌, Bool, true, false, nat_lt, List, [], ◌∷◌, refl, sym, ap, ◌∙◌, subst, inl, inr, ⊎_elim, eq-eqb, Some, arith}
+use Rattle.std.specs.Prelude.{if◌then◌else◌}
 use Rattle.std.specs.List.{fold}
 use Rattle.std.proofs.lemmas.Bool.Decides.{nat_tests}
 use Rattle.access_vectors.specs.Decisions.{Decisions}
-use Rattle.access_vectors.specs.Forced.{forced_to, is_aborted, MayAbort, MayCall}
-use Rattle.access_vectors.specs.Phases.{number_of, settled_number, version_at, is_pending, noticed, acknowledged, MayName}
+use Rattle.access_vectors.specs.Forced.{forced_to, is_aborted, MayCall}
+use Rattle.access_vectors.specs.Phases.{number_of, settled_number, version_at, is_pending, noticed, acknowledged}
 use Rattle.access_vectors.specs.declared.phase.Phase.{Phase}
 use Rattle.access_vectors.specs.declared.phase.Phase.TheVariants.{Settled, Pending}
 use Rattle.manager_history.specs.declared.entry.Entry.{Entry}
@@ -83,12 +84,20 @@ module _ {E : Type 0} (kind : E → Kind) (versions : ℕ) (log : List E) (alter
   newest_by a p ver (Settled n v) h = ap (λ (q : ℕ × ℕ). q.0) h.1
   newest_by a p ver (Pending n old new) h = ap (λ (q : ℕ × ℕ). q.0) h.1
 
+  version_by : (a : ℕ) (p : ℕ × ℕ) (ver : ℕ → ℕ) (phase : Phase) → Tells a p ver phase → p.1 ≡ version_at phase p.0
+  version_by a p ver (Settled n v) h = ap (λ (q : ℕ × ℕ). q.1) h.1
+  version_by a p ver (Pending n old new) h = ap (λ (q : ℕ × ℕ). q.1) h.1 ∙ sym (ap (λ (b : Bool). if b then new else old) (eq-eqb p.0 n (ap (λ (q : ℕ × ℕ). q.0) h.1)))
+
   -- the settled number is the phase's, and so is the last one noticed
   pub settled_is : settled_in kind log ≡ settled_number (phase_in kind log)
   settled_is = settled_by (settled_in kind log) (last_notice kind log) (λ m. version_of kind m log) (phase_in kind log) (tells kind versions log alternates)
 
   pub newest_is : (last_notice kind log).0 ≡ number_of (phase_in kind log)
   newest_is = newest_by (settled_in kind log) (last_notice kind log) (λ m. version_of kind m log) (phase_in kind log) (tells kind versions log alternates)
+
+  -- and its version is the phase's of it
+  pub version_is : (last_notice kind log).1 ≡ version_at (phase_in kind log) (last_notice kind log).0
+  version_is = version_by (settled_in kind log) (last_notice kind log) (λ m. version_of kind m log) (phase_in kind log) (tells kind versions log alternates)
 
   pub apart : is_pending (phase_in kind log) ≡ true → settled_in kind log ≢ (last_notice kind log).0
   apart pending = apart_by (settled_in kind log) (last_notice kind log) (λ m. version_of kind m log) (phase_in kind log) (tells kind versions log alternates) pending

@@ -1,11 +1,11 @@
 -- What a caller's turn at a station leaves of its seat.
-use Rattle.std.proofs.Common.{◌≡◌, ℕ, ◌-◌, Bool, true, false, List, [], ◌∷◌, ◌++◌, map, length, refl, sym, ap, ◌∙◌, subst, inl, inr, eq-eqb, Option, Some, None}
-use Rattle.std.specs.Prelude.{if◌then◌else◌, Result, Ok, Err, OnOk, OnErr, slice_get}
+use Rattle.std.proofs.Common.{◌≡◌, ℕ, Bool, true, false, List, [], ◌∷◌, ◌++◌, map, refl, sym, ap, ◌∙◌, subst, inl, inr, eq-eqb, Option, Some}
+use Rattle.std.specs.Prelude.{if◌then◌else◌, Result, Ok, Err, OnOk, OnErr}
 use Rattle.std.specs.FinMap as maps
 use Rattle.access_vectors.specs.Decisions.{Decisions}
 use Rattle.access_vectors.specs.Asking.{with_keys_of}
 use Rattle.access_vectors.specs.Forced.{is_aborted}
-use Rattle.access_vectors.specs.Stale.{Follows, is_use_following}
+use Rattle.access_vectors.specs.Stale.{Follows, AreNamed, is_use_following}
 use Rattle.access_vectors.specs.declared.asked.Asked.{Asked}
 use Rattle.access_vectors.specs.declared.phase.Phase.{Phase}
 use Rattle.flask_sid.specs.declared.memory.Memory.{Memory}
@@ -20,11 +20,10 @@ use Rattle.managed.specs.Posts.{last_asked}
 use Rattle.managed.proofs.AskedLemmas.{last_added}
 use Rattle.gate_rule.specs.declared.view.Role.TheVariants.{Caller}
 use Rattle.gate_rule.specs.declared.view.Pass.TheVariants.{Inside}
-use Rattle.gate_rule.specs.declared.view.View.{View}
 use Rattle.gate_rule.specs.declared.view.Key.{Key}
 use Rattle.gate_rule.specs.declared.view.Item.{Item}
 use Rattle.gate_rule.specs.declared.view.Trace.{Trace}
-use Rattle.gate_rule.specs.History.{Kind, is_by, of_caller, StartsWith}
+use Rattle.gate_rule.specs.History.{is_by, of_caller, StartsWith}
 use Rattle.gate_rule.specs.History.Kind.{Call as ACall}
 use Rattle.gate_rule.specs.Told.{Grows}
 use Rattle.gate_rule.specs.Tickets.{word_of}
@@ -35,7 +34,7 @@ use Rattle.epoch_gate.specs.Known.{seen_by, own_entries, caller_number, pass_hel
 use Rattle.epoch_gate.specs.Calls.{HasWaited, HasHadTurn}
 use Rattle.avc_rows.specs.Checks.{as_asked}
 use Rattle.managed_run.specs.Kinds.{kind_of, phase_of}
-use Rattle.managed_run.specs.Calls.{HasAdded, HasServed, HasDone, HasAborted, HasAnswered, HasAddedNone, operation_of, aborted_of}
+use Rattle.managed_run.specs.Calls.{HasAdded, HasAnswered, HasAddedNone, operation_of, aborted_of}
 
 module _ {Call Reply D O : Type 0} where
   -- a history that grew by the seat's own entry, or for want of memory stayed, may be given back
@@ -101,7 +100,7 @@ module _ {Call Reply State : Type 0} (plain : Manager Call Reply State) (d : Dec
           ∙ (ap (λ (l : List (Entry Call Reply)). l ++ e ∷ []) (sym own) ∙ ap (λ (x : Entry Call Reply). own_entries s ++ x ∷ []) same)));
     }
 
-    module _ (follows : Follows) (taken : slots_followed t ≡ maps.entries follows) where
+    module _ (follows : Follows) (taken : slots_followed t ≡ maps.entries follows) (named : AreNamed phase follows) where
       go : (b : Bool) → is_aborted phase number ≡ b → (said : Said Reply) → said ≡ said_if b → log' ≡ log ++ entry_if b ∷ [] → (b ≡ true → keys_served t ≡ keys_served s)
           → (b ≡ false → Some (map as_asked (keys_served t)) ≡ (if is_use_following (use_of caller call) follows number then Some (map as_asked (keys_served s)) else with_keys_of (Some (map as_asked (keys_served s))) answer.asked))
           → HasAnswered use_of mark call said (asked_if b) s t
@@ -119,6 +118,7 @@ module _ {Call Reply State : Type 0} (plain : Manager Call Reply State) (d : Dec
           taken = taken;
           served = served refl ∙ (λ i. if is_use_following (use_of (sym caller_is i) call) follows (sym number_is i) then Some (map as_asked (keys_served s)) else with_keys_of (Some (map as_asked (keys_served s))) answer.asked);
         };
+        named = subst (λ (p : Phase). AreNamed p follows) phase_is named;
       })
 
       -- the call was answered as the keeper says
@@ -131,13 +131,13 @@ module _ {Call Reply State : Type 0} (plain : Manager Call Reply State) (d : Dec
     -- the call was answered, by the facts of its turn: taken at w, asked through the cache at x, given back at t
     pub attended : (use_of : ℕ → Call → Option ℕ) (s w x t : Shown (Entry Call Reply) D O) (log log' : List (Entry Call Reply)) → StartsWith log (seen_by s) → phase ≡ phase_of log → seen_by t ≡ log'
         → own_entries s ≡ of_caller kind_of (caller_number s) log → own_entries t ≡ of_caller kind_of (caller_number x) log' → caller_number s ≡ caller → caller_number x ≡ caller → pass_number s ≡ number
-        → (follows : Follows) → slots_followed w ≡ maps.entries follows → slots_followed x ≡ slots_followed w → slots_followed t ≡ slots_followed x → keys_served w ≡ keys_served s → keys_served t ≡ keys_served x
+        → (follows : Follows) → AreNamed phase follows → slots_followed w ≡ maps.entries follows → slots_followed x ≡ slots_followed w → slots_followed t ≡ slots_followed x → keys_served w ≡ keys_served s → keys_served t ≡ keys_served x
         → (said : Said Reply) → said ≡ said_at plain d state phase caller call number → log' ≡ log ++ entry_at plain d state phase caller mark call number ∷ []
         → (is_aborted phase number ≡ true → keys_served x ≡ keys_served w)
         → (is_aborted phase number ≡ false → Some (map as_asked (keys_served x)) ≡ (if is_use_following (use_of caller call) follows number then Some (map as_asked (keys_served w)) else with_keys_of (Some (map as_asked (keys_served w))) answer.asked))
         → HasAnswered use_of mark call said (asked_if (is_aborted phase number)) s t
-    attended use_of s w x t log log' begins phase_is seen own mine caller_s caller_x number_is follows taken asked gave keys_w keys_t said is more kept served =
-        answered use_of s t log log' begins phase_is seen (own ∙ ap (λ (n : ℕ). of_caller kind_of n log) caller_s) (mine ∙ ap (λ (n : ℕ). of_caller kind_of n log') caller_x) caller_s number_is follows (gave ∙ (asked ∙ taken))
+    attended use_of s w x t log log' begins phase_is seen own mine caller_s caller_x number_is follows named taken asked gave keys_w keys_t said is more kept served =
+        answered use_of s t log log' begins phase_is seen (own ∙ ap (λ (n : ℕ). of_caller kind_of n log) caller_s) (mine ∙ ap (λ (n : ℕ). of_caller kind_of n log') caller_x) caller_s number_is follows (gave ∙ (asked ∙ taken)) named
         said is more (λ b. keys_t ∙ (kept b ∙ keys_w))
         (λ b. subst (λ (ks : List Key). Some (map as_asked (keys_served t)) ≡ (if is_use_following (use_of caller call) follows number then Some (map as_asked ks) else with_keys_of (Some (map as_asked ks)) answer.asked)) keys_w
         (ap (λ (ks : List Key). Some (map as_asked ks)) keys_t ∙ served b))

@@ -1,5 +1,5 @@
 -- What the administrator of a change sees of a manager behind its gate.
-use Rattle.std.specs.Prelude.{◌≡◌, ℕ, ◌-◌, ◌^◌, min, List, [], map, length, All, Option, Some, None, option_map}
+use Rattle.std.specs.Prelude.{◌≡◌, ℕ, ◌-◌, ◌^◌, min, List, map, length, All, Some, None, option_map}
 use Rattle.std.specs.List.{fold}
 use Rattle.access_vectors.specs.Decisions.{Decisions}
 use Rattle.manager_history.specs.declared.entry.Entry.{Entry}
@@ -10,11 +10,7 @@ use Rattle.epoch_gate.specs.Seats.{Shown, Site, IsOfGate}
 use Rattle.epoch_gate.specs.Known.{seen_by, seats_made, seats_retired, turns_had, greatest_number, versions_at, IsIdle}
 use Rattle.managed_run.specs.declared.docket.Opened.{Opened}
 use Rattle.managed_run.specs.Kinds.{phase_of}
-
--- a count that is not told is 0
-abbrev pub or_none : Option ℕ → ℕ
-or_none None = 0
-or_none (Some older) = older
+use Rattle.managed_run.specs.Changes.{or_none, IsClear}
 
 -- what a turn showed
 abbrev pub showing : {E : Type 0} → Item E → Showing
@@ -27,11 +23,6 @@ last_shown turns = fold (λ before item. showing item) (record { older = 0; foun
 -- how many turns there were, in 64 bits
 abbrev pub tries_of : {E : Type 0} → List (Item E) → ℕ
 tries_of turns = min (length turns) (2 ^ 64 - 1)
-
--- a turn found no stale slot, and counted no older pass
-pub record IsClear {E : Type 0} (item : Item E) : Type 0 where
-  pub found : item.found ≡ 0
-  pub older : or_none item.looked ≡ 0
 
 -- a station, and its administrator
 pub record Holding (Core D Call Reply : Type 0) : Type 0 where

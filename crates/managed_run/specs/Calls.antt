@@ -1,10 +1,10 @@
 -- What a caller knows after a call at a station.
-use Rattle.std.specs.Prelude.{◌≡◌, ℕ, true, false, List, [], ◌∷◌, ◌++◌, map, Option, Some, None, if◌then◌else◌}
+use Rattle.std.specs.Prelude.{◌≡◌, ℕ, true, false, List, [], ◌∷◌, ◌++◌, map, Option, Some, if◌then◌else◌}
 use Rattle.std.specs.FinMap as maps
 use Rattle.access_vectors.specs.Decisions.{Decisions}
 use Rattle.access_vectors.specs.Asking.{with_keys_of}
 use Rattle.access_vectors.specs.Forced.{is_aborted}
-use Rattle.access_vectors.specs.Stale.{Follows, is_use_following}
+use Rattle.access_vectors.specs.Stale.{Follows, AreNamed, is_use_following}
 use Rattle.access_vectors.specs.declared.asked.Asked.{Asked}
 use Rattle.access_vectors.specs.declared.phase.Phase.TheVariants.{Settled}
 use Rattle.manager_history.specs.declared.entry.Entry.{Entry}
@@ -52,11 +52,13 @@ module _ {Call Reply D O : Type 0} where
         ≡ (if is_use_following slot follows (pass_number s) then Some (map as_asked (keys_served s)) else with_keys_of (Some (map as_asked (keys_served s))) asked)
 
   -- the call was done: an operation with these questions and this reply was added, and in the history that the turn found the
-  -- pass's number was not below the settled one
+  -- pass's number was not below the settled one, and each used slot followed a number that may be named there, which is the
+  -- settled one where nothing is pending
   pub record HasDone (use_of : ℕ → Call → Option ℕ) (mark : ℕ) (call : Call) (asked : List Asked) (reply : Reply) (s t : Shown (Entry Call Reply) D O) : Type 0 where
     pub added : HasAdded (operation_of s mark call asked reply) s t
     pub in_force : is_aborted (phase_of added.before) (pass_number s) ≡ false
     pub served : HasServed (use_of (caller_number s) call) asked s t
+    pub named : AreNamed (phase_of added.before) served.follows
 
   -- the call was aborted: that was added, there were no questions, no key was served, and in the history that the turn found
   -- the pass's number was below the settled one

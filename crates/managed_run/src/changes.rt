@@ -1,12 +1,13 @@
 //! Changes of policy at a station: each call of the administrator has one turn.
 
 ghost use Rattle.std.specs.Prelude.{◌≡◌, ◌+◌, ◌-◌, ◌≤◌, min, true, false, IfOk, IfErr, OnErr};
+ghost use Rattle.access_vectors.specs.Phases.{is_pending};
 ghost use Rattle.access_vectors.specs.Notices.{notice_fault, IsRefusal};
 ghost use Rattle.epoch_gate.specs.Seats.{IsOfGate};
 ghost use Rattle.epoch_gate.specs.Known.{decider_of, greatest_number, versions_at, seen_by, IsIdle, HasTurn, IsUnsettled, stale_found, stale_left};
 ghost use Rattle.managed_run.specs.Kinds.{kind_of, phase_of};
 ghost use Rattle.managed_run.specs.Calls.{IsSound};
-ghost use Rattle.managed_run.specs.Changes.{HasNotified, HasTurnedNone, HasAcknowledged, IsSettled, KeepsSeats};
+ghost use Rattle.managed_run.specs.Changes.{HasNotified, HasTurnedNone, HasAcknowledged, IsSettled, IsCurrent, StaysClear, KeepsSeats};
 ghost use Rattle.managed_run.specs.Changes;
 
 use crate::docket::{CoreDocket, Docket};
@@ -52,6 +53,8 @@ impl<'d, C: Core + Drop, D: Decider> Station<'d, C, D> {
         ensures refused { IfErr result (IsRefusal (notice_fault (phase_of (seen_by admin.new)) (versions_at D.decides self.now) ver (greatest_number self.now))) }
         ensures err { OnErr result (HasTurnedNone admin.old admin.new) }
         ensures sound { IsSound C.plain C.formed C.denial_of (D.decides (decider_of self.now)) (C.opening self.now.fixed.opening.core) (seen_by admin.new) }
+        ensures current { IsCurrent admin.new }
+        ensures clear { StaysClear admin.old admin.new }
         ensures seats { KeepsSeats admin.old admin.new }
         ensures idle { IsIdle admin.new }
         ensures gate { IsOfGate self.now admin.new }
@@ -74,7 +77,7 @@ impl<'d, C: Core + Drop, D: Decider> Station<'d, C, D> {
     }
 
     /// Lets the first `k` stale slots, or all where they are fewer, follow the pending number, with one turn, and answers how
-    /// many are left. One tick of `steps` for each of them. It takes no memory.
+    /// many are left. One tick of `steps` for each of them. While nothing is pending none is stale. It takes no memory.
     pub fn update<R: Wait, L: Ledger>(
         &self,
         rt: &R,
@@ -87,7 +90,10 @@ impl<'d, C: Core + Drop, D: Decider> Station<'d, C, D> {
         ensures left { (result ≡ stale_left admin.new) × (result ≡ stale_found admin.new - min k (stale_found admin.new)) }
         ensures cost { steps.new ≡ steps.old + min k (stale_found admin.new) }
         ensures turned { HasTurnedNone admin.old admin.new }
+        ensures rests { is_pending (phase_of (seen_by admin.new)) ≡ false → stale_found admin.new ≡ 0 }
         ensures sound { IsSound C.plain C.formed C.denial_of (D.decides (decider_of self.now)) (C.opening self.now.fixed.opening.core) (seen_by admin.new) }
+        ensures current { IsCurrent admin.new }
+        ensures clear { StaysClear admin.old admin.new }
         ensures seats { KeepsSeats admin.old admin.new }
         ensures idle { IsIdle admin.new }
         ensures gate { IsOfGate self.now admin.new }
@@ -107,6 +113,8 @@ impl<'d, C: Core + Drop, D: Decider> Station<'d, C, D> {
         ensures acknowledged { HasAcknowledged false self.now.fixed.opening.manager result admin.old admin.new }
         ensures done { IsSettled false self.now.fixed.opening.manager result admin.old admin.new }
         ensures sound { IsSound C.plain C.formed C.denial_of (D.decides (decider_of self.now)) (C.opening self.now.fixed.opening.core) (seen_by admin.new) }
+        ensures current { IsCurrent admin.new }
+        ensures clear { StaysClear admin.old admin.new }
         ensures seats { KeepsSeats admin.old admin.new }
         ensures idle { IsIdle admin.new }
         ensures gate { IsOfGate self.now admin.new }
@@ -132,6 +140,8 @@ impl<'d, C: Core + Drop, D: Decider> Station<'d, C, D> {
         ensures acknowledged { HasAcknowledged true self.now.fixed.opening.manager result admin.old admin.new }
         ensures done { IsSettled true self.now.fixed.opening.manager result admin.old admin.new }
         ensures sound { IsSound C.plain C.formed C.denial_of (D.decides (decider_of self.now)) (C.opening self.now.fixed.opening.core) (seen_by admin.new) }
+        ensures current { IsCurrent admin.new }
+        ensures clear { StaysClear admin.old admin.new }
         ensures seats { KeepsSeats admin.old admin.new }
         ensures idle { IsIdle admin.new }
         ensures gate { IsOfGate self.now admin.new }

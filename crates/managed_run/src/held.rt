@@ -3,8 +3,7 @@
 ghost use Rattle.std.specs.Prelude.{◌≡◌, ◌+◌, ◌-◌, ◌<◌, All, min};
 ghost use Rattle.epoch_gate.specs.Seats.{IsOfGate};
 ghost use Rattle.epoch_gate.specs.Known.{IsIdle, seats_made, turns_had, stale_found, stale_left};
-ghost use Rattle.managed_run.specs.Administering.{IsClear};
-ghost use Rattle.managed_run.specs.Changes.{HasTurnedNone, KeepsSeats};
+ghost use Rattle.managed_run.specs.Changes.{HasTurnedNone, StaysClear, KeepsSeats, IsClear};
 
 use crate::docket::CoreDocket;
 use crate::station::Station;
@@ -49,11 +48,12 @@ impl<'s, 'd, C: Core + Drop, D: Decider> Held<'s, 'd, C, D> {
         Held { station, admin }
     }
 
-    /// The administrator again.
+    /// The administrator again. Where it made no seat, each of its turns found no stale slot and no older pass.
     pub fn release(self) -> Admin<CoreDocket<'d, C, D>, D>
         ensures admin { result ≡ self.entry.admin }
         ensures gate { IsOfGate self.entry.site result }
         ensures idle { IsIdle result }
+        ensures clear { seats_made result ≡ 0 → All IsClear (turns_had result) }
     {
         let Held { station: _, admin } = self;
         admin
@@ -75,6 +75,7 @@ fn update_counted<'d, C: Core + Drop, D: Decider, R: Wait, L: Ledger>(
     requires idle { IsIdle admin.old }
     ensures left { (result ≡ stale_left admin.new) × (result ≡ stale_found admin.new - min k (stale_found admin.new)) }
     ensures turned { HasTurnedNone admin.old admin.new }
+    ensures clear { StaysClear admin.old admin.new }
     ensures seats { KeepsSeats admin.old admin.new }
     ensures idle { IsIdle admin.new }
     ensures gate { IsOfGate station.now admin.new }

@@ -7,7 +7,8 @@ ghost use Rattle.epoch_gate.specs.Known.{decider_of, seats_allowed, HasPass, Has
 ghost use Rattle.epoch_gate.specs.Calls.{HasEntered, HasLeft, IsNew, HasMade, HasRetired, IsFirst};
 ghost use Rattle.epoch_gate.specs.Opening.{refusal, IsRefused};
 ghost use Rattle.avc_rows.specs.Checks.{IsSame, IsShown};
-ghost use Rattle.managed_run.specs.Kinds.{kind_of};
+ghost use Rattle.access_vectors.specs.Stale.{AreNamed};
+ghost use Rattle.managed_run.specs.Kinds.{kind_of, phase_of};
 ghost use Rattle.managed_run.specs.Calls.{IsSound};
 ghost use Rattle.managed_run.specs.Ends.{HasEndedWith};
 
@@ -144,7 +145,7 @@ impl<'d, C: Core + Drop, D: Decider> Station<'d, C, D> {
     }
 
     /// Ends the station once every seat is retired, and gives the keeper. Its history has for each retired number exactly
-    /// the entries of its seat.
+    /// the entries of its seat, and where it is settled every used slot follows the settled number.
     pub fn close(self, admin: Admin<CoreDocket<'d, C, D>, D>) -> Keeper<'d, C, D>
         requires gate { IsOfGate self admin }
         requires out { seats_made admin ≡ length (seats_retired admin) }
@@ -153,6 +154,8 @@ impl<'d, C: Core + Drop, D: Decider> Station<'d, C, D> {
         ensures decider { result.decider ≡ decider_of self.entry }
         ensures manager { result.manager ≡ self.entry.fixed.opening.manager }
         ensures opening { C.opening result.core ≡ C.opening self.entry.fixed.opening.core }
+        ensures phase { result.phase ≡ phase_of result.history }
+        ensures named { AreNamed result.phase (C.follows result.core) }
         ensures sound { IsSound C.plain C.formed C.denial_of (D.decides (decider_of self.entry)) (C.opening self.entry.fixed.opening.core) result.history }
     {
         let Docket { keeper, first: _ } = self.gate.close(admin);

@@ -2,7 +2,7 @@
 
 ghost use Rattle.std.specs.Prelude.{◌≡◌, ◌<◌, ◌∷◌, [], length, IfOk, IfSome};
 ghost use Rattle.epoch_gate.specs.Seats.{IsOfGate};
-ghost use Rattle.epoch_gate.specs.Known.{IsIdle, caller_number, seats_made};
+ghost use Rattle.epoch_gate.specs.Known.{IsIdle, HasNoPass, caller_number, seats_made};
 ghost use Rattle.example_board.specs.Plain.{IsCall};
 
 use access_vectors::perms::FILE_READ;
@@ -24,8 +24,8 @@ use std::test::Fail;
 /// A decider of two versions: version 0 allows everybody everything, and version 1 withholds reading. It counts what it is
 /// asked.
 #[derive(Drop)]
-struct Counting {
-    asked: AtomicU64,
+pub(crate) struct Counting {
+    pub(crate) asked: AtomicU64,
 }
 
 impl Decider for Counting {
@@ -72,14 +72,14 @@ impl Decider for Counting {
     } };
 }
 
-type Board<'d> = Station<'d, BoardCore<EachBits>, Counting>;
+pub(crate) type Board<'d> = Station<'d, BoardCore<EachBits>, Counting>;
 
-type Chair<'d> = Seat<CoreDocket<'d, BoardCore<EachBits>, Counting>, Counting>;
+pub(crate) type Chair<'d> = Seat<CoreDocket<'d, BoardCore<EachBits>, Counting>, Counting>;
 
-type Office<'d> = Admin<CoreDocket<'d, BoardCore<EachBits>, Counting>, Counting>;
+pub(crate) type Office<'d> = Admin<CoreDocket<'d, BoardCore<EachBits>, Counting>, Counting>;
 
 /// An opening with two clients of the identifier that is the board's label.
-fn two_clients(alloc: Global, client: Sid) -> Result<BoardOpening, Memory>
+pub(crate) fn two_clients(alloc: Global, client: Sid) -> Result<BoardOpening, Memory>
     ensures clients { IfOk result (λ opening. opening.clients ≡ client ∷ client ∷ []) }
     ensures label { IfOk result (λ opening. opening.label ≡ client) }
 {
@@ -94,13 +94,26 @@ fn two_clients(alloc: Global, client: Sid) -> Result<BoardOpening, Memory>
 
 /// Why there is no board behind a gate: the gate is refused, or there is no memory.
 #[derive(Clone, Copy, Debug, PartialEq, Eq)]
-enum Refused {
+pub(crate) enum Refused {
     Gate(GateFault),
     Memory,
 }
 
+/// A board of two clients, of which nothing was done yet.
+pub(crate) fn fresh_keeper<'d>(
+    alloc: Global,
+    decider: &'d Counting,
+) -> Option<Keeper<'d, BoardCore<EachBits>, Counting>>
+    ensures { IfSome result (λ keeper. length keeper.core.opening.clients ≡ 2) }
+{
+    let client = Sid::of(1)?;
+    let opening = two_clients(alloc, client).ok()?;
+    let core = example_board::new(alloc, opening, EachBits);
+    Some(Keeper::new(alloc, core, 0, decider))
+}
+
 /// A board of two clients behind its gate, with its administrator.
-fn opened<'d>(
+pub(crate) fn opened<'d>(
     alloc: Global,
     decider: &'d Counting,
     seats: u8,
@@ -126,7 +139,7 @@ fn opened<'d>(
 
 /// The administrator at work, of which the tests know only that it is free again: what is answered is compared when a test
 /// runs.
-fn noticed<'d>(
+pub(crate) fn noticed<'d>(
     rt: &impl Wait,
     alloc: Global,
     board: &Board<'d>,
@@ -139,7 +152,7 @@ fn noticed<'d>(
     board.notify(rt, alloc, office, ver)
 }
 
-fn answered<'d>(rt: &impl Wait, board: &Board<'d>, office: &mut Office<'d>) -> Ack
+pub(crate) fn answered<'d>(rt: &impl Wait, board: &Board<'d>, office: &mut Office<'d>) -> Ack
     requires { IsOfGate board.now office.old × IsIdle office.old }
     ensures { IsOfGate board.now office.new × IsIdle office.new }
 {
@@ -154,11 +167,12 @@ fn forced<'d>(rt: &impl Wait, board: &Board<'d>, office: &mut Office<'d>) -> Ack
 }
 
 /// A client's call: what it answers, or none where the seat has no pass, is no client's or there is no memory.
-fn called<'d>(
+pub(crate) fn called<'d>(
     rt: &impl Wait,
     alloc: Global,
     board: &Board<'d>,
     seat: &mut Chair<'d>,
+    mark: u32,
     call: BoardCall,
 ) -> Option<Answer<BoardReply>>
     requires board { length board.now.fixed.opening.core.opening.clients ≡ 2 }
@@ -169,10 +183,10 @@ fn called<'d>(
     if seat.number() > 1 || seat.pass().is_none() {
         return None;
     }
-    board.call(rt, alloc, seat, 0, call).ok()
+    board.call(rt, alloc, seat, mark, call).ok()
 }
 
-fn entered<'d>(board: &Board<'d>, seat: &mut Chair<'d>) -> Result<(), Spent>
+pub(crate) fn entered<'d>(board: &Board<'d>, seat: &mut Chair<'d>) -> Result<(), Spent>
     requires { IsOfGate board.now seat.old × IsIdle seat.old }
     ensures { IsOfGate board.now seat.new × IsIdle seat.new }
 {
@@ -182,12 +196,30 @@ fn entered<'d>(board: &Board<'d>, seat: &mut Chair<'d>) -> Result<(), Spent>
     board.enter(seat)
 }
 
-fn left<'d>(board: &Board<'d>, seat: &mut Chair<'d>)
+pub(crate) fn left<'d>(board: &Board<'d>, seat: &mut Chair<'d>)
     requires { IsOfGate board.now seat.old × IsIdle seat.old }
-    ensures { IsOfGate board.now seat.new × IsIdle seat.new }
+    ensures { IsOfGate board.now seat.new × IsIdle seat.new × HasNoPass seat.new }
 {
     if seat.pass().is_some() {
         board.leave(seat);
+    }
+}
+
+/// A caller's call by its mark: it opens slot 0, reads and posts through it in turn, and closes it.
+pub(crate) fn scripted(mark: u32) -> BoardCall
+    ensures { IsCall result }
+{
+    match mark % 10 {
+        0 => BoardCall::Open {
+            slot: 0,
+            mode: Vector::of(3),
+        },
+        9 => BoardCall::Close { slot: 0 },
+        2 | 5 | 8 => BoardCall::Post {
+            slot: 0,
+            number: mark,
+        },
+        _ => BoardCall::Read { slot: 0 },
     }
 }
 
@@ -307,7 +339,7 @@ fn cache_over_three_numbers(rt: HostRuntime) -> Result<(), Fail> {
 }
 
 /// A client's reply, or none where there is none: then the call was aborted, or not made.
-fn replied<'d>(
+pub(crate) fn replied<'d>(
     rt: &impl Wait,
     alloc: Global,
     board: &Board<'d>,
@@ -319,7 +351,7 @@ fn replied<'d>(
     requires ranges { IsCall call }
     ensures { IsOfGate board.now seat.new × IsIdle seat.new }
 {
-    match called(rt, alloc, board, seat, call)? {
+    match called(rt, alloc, board, seat, 0, call)? {
         Answer::Did(reply) => Some(reply),
         Answer::Aborted => None,
     }
@@ -338,7 +370,7 @@ fn aborted<'d>(
     requires ranges { IsCall call }
     ensures { IsOfGate board.now seat.new × IsIdle seat.new }
 {
-    match called(rt, alloc, board, seat, call) {
+    match called(rt, alloc, board, seat, 0, call) {
         Some(Answer::Aborted) => true,
         _ => false,
     }
@@ -374,7 +406,7 @@ fn forced_acknowledgements_abort_older_calls(rt: HostRuntime) -> Result<(), Fail
 }
 
 /// Opens a client's slot 0 for reading, under a pass of its own.
-fn opened_slot<'d>(
+pub(crate) fn opened_slot<'d>(
     rt: &impl Wait,
     alloc: Global,
     board: &Board<'d>,
@@ -392,7 +424,12 @@ fn opened_slot<'d>(
 }
 
 /// The administrator's work: so many changes, between the two versions, each until it is acknowledged.
-fn change_often<M: Managed, R: Wait>(rt: &R, alloc: Global, mut held: M, times: u32) -> (M, u32) {
+pub(crate) fn change_often<M: Managed, R: Wait>(
+    rt: &R,
+    alloc: Global,
+    mut held: M,
+    times: u32,
+) -> (M, u32) {
     let mut complete = 0u32;
     for number in 0..times {
         if held.notify(rt, alloc, u8::from(number % 2 == 0)).is_err() {
@@ -406,7 +443,7 @@ fn change_often<M: Managed, R: Wait>(rt: &R, alloc: Global, mut held: M, times: 
 }
 
 /// Updates slots and tries to acknowledge until that is done.
-fn settled<M: Managed, R: Wait>(rt: &R, held: &mut M) -> bool {
+pub(crate) fn settled<M: Managed, R: Wait>(rt: &R, held: &mut M) -> bool {
     for _ in rt.forever() {
         let _ = held.update(rt, 64);
         if let Ack::Done(_) = held.acknowledge(rt) {

@@ -3,3 +3,7 @@
 
 #[cfg(test)]
 mod board;
+#[cfg(test)]
+mod lawful;
+#[cfg(test)]
+mod threads;

@@ -1,6 +1,6 @@
 use Rattle.std.proofs.Common.{◌∙◌, rules}
 use Rattle.epoch_gate.proofs.Hands as hands
-use Rattle.std.proofs.Common.{ap, sym}
+use Rattle.std.proofs.Common.{ap}
 use Rattle.epoch_gate.proofs.Standing.{stands_as}
 use Rattle.epoch_gate.proofs.steps.give.Goals as goal
 

@@ -1,7 +1,7 @@
 use Rattle.std.proofs.Common.{false, refl, subst}
-use Rattle.managed.specs.Seen.{IsNotified, IsUpdated, IsAcknowledged}
+use Rattle.managed.specs.Seen.{IsAcknowledged}
 use Rattle.managed_run.specs.Administering.{Holding, seen_of}
-use Rattle.managed_run.proofs.Administering.{notified_seen, updated_seen, acknowledged_seen}
+use Rattle.managed_run.proofs.Administering.{acknowledged_seen}
 use Rattle.managed_run.proofs.held.HeldManaged.acknowledge.Goals as goal
 
 pub returns-clause-acknowledged : goal.returns-clause-acknowledged

@@ -1,7 +1,7 @@
 use Rattle.std.proofs.Common.{refl, subst}
-use Rattle.managed.specs.Seen.{IsNotified, IsUpdated, IsAcknowledged}
+use Rattle.managed.specs.Seen.{IsNotified}
 use Rattle.managed_run.specs.Administering.{Holding, seen_of}
-use Rattle.managed_run.proofs.Administering.{notified_seen, updated_seen, acknowledged_seen}
+use Rattle.managed_run.proofs.Administering.{notified_seen}
 use Rattle.managed_run.proofs.held.HeldManaged.notify.Goals as goal
 
 pub returns-clause-notified : goal.returns-clause-notified

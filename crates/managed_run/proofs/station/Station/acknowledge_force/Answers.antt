@@ -1,16 +1,14 @@
-use Rattle.std.proofs.Common.{◌≡◌, ℕ, Bool, true, false, [], ◌∷◌, ◌++◌, length, refl, sym, ap, ◌∙◌, subst, Some, None, arith}
-use Rattle.std.specs.Prelude.{IsTrue}
+use Rattle.std.proofs.Common.{◌≡◌, ℕ, true, ◌++◌, length, refl, sym, ap, ◌∙◌, subst, None}
 use Rattle.std.specs.FinMap as maps
 use Rattle.access_vectors.specs.Phases.{number_of, is_pending}
 use Rattle.manager_history.specs.declared.entry.Entry.TheVariants as entry
 use Rattle.manager_history.specs.Kept.{ack_answer, is_done}
-use Rattle.managed_run.specs.Kinds.{kind_of, phase_of, IsUncalled}
+use Rattle.managed_run.specs.Kinds.{kind_of, phase_of}
 use Rattle.managed_run.specs.Laws.{alternates_lawful}
-use Rattle.managed_run.specs.Changes.{HasLooked, HasCounted, entries_if, item_if}
+use Rattle.managed_run.specs.Changes.{AllFollow, counts_passes, entries_if, item_if}
 use Rattle.managed_run.proofs.Reading as reading
 use Rattle.managed_run.proofs.Keeping as keeping
 use Rattle.managed_run.proofs.Changing as changing
-use Rattle.gate_rule.proofs.Histories.{nothing_added, one_added}
 use Rattle.managed_run.proofs.station.Station.acknowledge_force.Goals as goal
 
 pub give_admin-requires-clause-history : goal.give_admin-requires-clause-history
@@ -67,9 +65,26 @@ returns-clause-acknowledged g c =
       left = gave.left ∙ (keeping.left_is g.C.Core.stale c.force-answer.result keeper c.force-answer.new.self told.as_before
           (λ done. kept.stale ∙ keeping.settled_stale (g.D.Decider.decides c.force-answer.new.self.decider) g.C.Core.class c.force-answer.new.self.phase (g.C.Core.pair_of (g.C.Core.state c.force-answer.new.self.core)) (g.C.Core.follows c.force-answer.new.self.core) (ap is_pending (told.settled done) ∙ changing.rests keeper.phase)) (λ done. (means done).2) ∙ sym stale);
       cleared = λ is done. absurd (cc);
+      given = λ done. subst (λ (n : ℕ). AllFollow n c.give_admin.new.admin.view.desk.given) (ap number_of value.3.phase)
+          (subst (AllFollow (number_of keeper.phase)) (sym (gave.given ∙ ap maps.entries (told.follows done))) (keeping.all_follow (number_of keeper.phase) (g.C.Core.follows keeper.core)));
       current = gave.same.number ∙ took.same.number;
       at_version = gave.same.version ∙ took.same.version;
     }
 
 pub returns-clause-done : goal.returns-clause-done
 returns-clause-done g c = changing.settled_of true _ c.force-answer.result c.args.admin.now c.give_admin.new.admin (returns-clause-acknowledged g c)
+
+pub returns-clause-current : goal.returns-clause-current
+returns-clause-current g c =
+    let took = c.take_admin-keeper.ensures in
+    let keeper = c.take_admin-keeper.result.keeper in
+    let told = c.force-answer.ensures in
+    let done = returns-clause-acknowledged g c in
+    let grown = changing.grown_if c.force-answer.result keeper c.force-answer.new.self (entry.Forced (number_of keeper.phase)) told.added told.as_before in
+    changing.current_is _ c.force-answer.new.self.history (alternates_lawful g.C.Core.plain g.C.Core.formed _ _ c.force-answer.new.self.history c.entries-kept.ensures.lawful) c.give_admin.new.admin c.give_admin.ensures.seen
+    (changing.last_ack (is_done c.force-answer.result) true keeper.history c.force-answer.new.self.history (number_of keeper.phase) grown ∙ (took.learns.1.last ∙ (λ i. (sym done.current i, sym done.at_version i))))
+
+pub returns-clause-clear : goal.returns-clause-clear
+returns-clause-clear g c =
+    let told = returns-clause-acknowledged g c in
+    changing.stays_clear _ told.looked c.args.admin.now c.give_admin.new.admin told.turn told.found.clear (changing.none_counted (counts_passes (is_pending (phase_of told.before)) true) told.older told.looked c.args.admin.now c.give_admin.new.admin told.counted)

@@ -1,4 +1,4 @@
-use Rattle.std.proofs.Common.{◌≡◌, ℕ, List, [], length, refl, sym, ap, ◌∙◌, subst}
+use Rattle.std.proofs.Common.{◌≡◌, ℕ, List, [], length, sym, ap, ◌∙◌, subst}
 use Rattle.std.specs.Prelude.{IfOk, if◌then◌else◌}
 use Rattle.access_vectors.specs.declared.asked.Asked.{Asked}
 use Rattle.access_vectors.specs.Forced.{is_aborted}
@@ -100,7 +100,7 @@ returns-clause-ok g c =
     let asked = serving.asked_if g.C.Core.plain d at keeper.phase c.number-caller.result mark call c.in-Some.number (is_aborted keeper.phase c.in-Some.number) in (
       asked,
       serving.attended g.C.Core.plain d at keeper.phase c.number-caller.result mark call c.in-Some.number g.C.Core.use_of c.args.seat.now c.take-keeper.new.seat c.serve-answer.new.seat c.give.new.seat keeper.history new.history
-          took.learns.0 value.3.phase gave.seen took.learns.1.0 gave.mine caller_s caller_x (ap number_of c.in-Some.ensures.pass) (g.C.Core.follows keeper.core) took.follows (ap (λ (v : _). v.follows) same) gave.follows took.same.keys gave.same.keys
+          took.learns.0 value.3.phase gave.seen took.learns.1.0 gave.mine caller_s caller_x (ap number_of c.in-Some.ensures.pass) (g.C.Core.follows keeper.core) value.3.named took.follows (ap (λ (v : _). v.follows) same) gave.follows took.same.keys gave.same.keys
           _ c.in_ok-answer.ensures.answer c.in_ok-answer.ensures.added told.unserved
           c.in_ok-answer.ensures.keys,
       subst (λ (x : List Asked). IfOk c.asked_last-copy.result (λ copy. copy ≡ (if c.args.asking.copies then x else [])))

@@ -27,3 +27,6 @@ returns-clause-sound g c =
       revocation = subst (λ (d : _). RevocationHolds (g.D.Decider.decides d) (Settled 0 0) c.close-keeper.result.keeper.history) value.1 kept.revocation;
       denials = subst (λ (d : _). DenialsAreJust g.C.Core.denial_of (g.D.Decider.decides d) (Settled 0 0) c.close-keeper.result.keeper.history) value.1 kept.denials;
     }
+
+pub returns-clause-phase : goal.returns-clause-phase
+returns-clause-phase g c = (c.close-keeper.ensures.closed.value _ c.requires.gate.1).3.phase

@@ -1,10 +1,8 @@
-use Rattle.std.proofs.Common.{◌≡◌, ℕ, Bool, true, false, [], ◌∷◌, ◌++◌, length, ◌+◌, ◌<◌, append-nil, refl, sym, ap, ◌∙◌, subst, Some, None, arith}
-use Rattle.std.specs.Prelude.{IsTrue}
+use Rattle.std.proofs.Common.{◌≡◌, ℕ, true, false, length, ◌+◌, ◌<◌, append-nil, refl, sym, ap, ◌∙◌, subst, None, arith}
 use Rattle.std.specs.FinMap as maps
-use Rattle.access_vectors.specs.Phases.{number_of, is_pending}
+use Rattle.access_vectors.specs.Phases.{number_of}
 use Rattle.manager_history.specs.declared.entry.Entry.TheVariants as entry
-use Rattle.manager_history.specs.Kept.{ack_answer, is_done}
-use Rattle.managed_run.specs.Kinds.{kind_of, phase_of, IsUncalled}
+use Rattle.managed_run.specs.Kinds.{kind_of}
 use Rattle.managed_run.specs.Laws.{alternates_lawful}
 use Rattle.managed_run.specs.Changes.{HasFound}
 use Rattle.managed_run.proofs.Reading as reading
@@ -12,8 +10,8 @@ use Rattle.managed_run.proofs.Keeping as keeping
 use Rattle.managed_run.proofs.Changing as changing
 use Rattle.access_vectors.specs.Notices.{notice_fault}
 use Rattle.access_vectors.specs.Phases.{settled_number}
-use Rattle.gate_rule.specs.History.{settled_in}
-use Rattle.gate_rule.proofs.Histories.{nothing_added, one_added}
+use Rattle.gate_rule.specs.History.{settled_in, last_notice}
+use Rattle.gate_rule.proofs.Histories.{notice_more}
 use Rattle.managed_run.proofs.station.Station.notify.Goals as goal
 
 pub notify-said-requires : goal.notify-said-requires
@@ -126,3 +124,22 @@ returns-in-Err-clause-err g c =
       current = gave.same.number ∙ took.same.number;
       at_version = gave.same.version ∙ took.same.version;
     }
+
+pub returns-in-Ok-clause-current : goal.returns-in-Ok-clause-current
+returns-in-Ok-clause-current g c =
+    let told = returns-in-Ok-clause-ok g c in
+    changing.current_is _ c.notify-said.new.self.history (alternates_lawful g.C.Core.plain g.C.Core.formed _ _ c.notify-said.new.self.history c.entries-kept.ensures.lawful) c.give_admin.new.admin c.give_admin.ensures.seen
+    (ap (last_notice kind_of) c.in-Ok.ensures.added ∙ (notice_more kind_of c.take_admin-keeper.result.keeper.history (entry.Notice c.in-Ok.number c.args.ver) ∙ (λ i. (sym told.current i, sym told.at_version i))))
+
+pub returns-in-Ok-clause-clear : goal.returns-in-Ok-clause-clear
+returns-in-Ok-clause-clear g c = let told = returns-in-Ok-clause-ok g c in changing.stays_clear _ None c.args.admin.now c.give_admin.new.admin told.turn told.found.clear (λ none. refl)
+
+pub returns-in-Err-clause-current : goal.returns-in-Err-clause-current
+returns-in-Err-clause-current g c =
+    let took = c.take_admin-keeper.ensures in
+    let gave = c.give_admin-in-Err.ensures in
+    changing.current_is _ c.notify-said.new.self.history (alternates_lawful g.C.Core.plain g.C.Core.formed _ _ c.notify-said.new.self.history c.entries-kept.ensures.lawful) c.give_admin-in-Err.new.admin gave.seen
+    (ap (λ (k : _). last_notice kind_of k.history) c.in-Err.ensures.as_before ∙ (took.learns.1.last ∙ (λ i. (sym (gave.same.number ∙ took.same.number) i, sym (gave.same.version ∙ took.same.version) i))))
+
+pub returns-in-Err-clause-clear : goal.returns-in-Err-clause-clear
+returns-in-Err-clause-clear g c = let told = returns-in-Err-clause-err g c in changing.stays_clear None None c.args.admin.now c.give_admin-in-Err.new.admin told.turn told.found.clear (λ none. refl)

@@ -1,17 +1,13 @@
-use Rattle.std.proofs.Common.{◌≡◌, ℕ, Bool, true, false, [], ◌∷◌, ◌++◌, length, append-nil, refl, sym, ap, ◌∙◌, subst, Some, None, arith}
-use Rattle.std.specs.Prelude.{IsTrue}
+use Rattle.std.proofs.Common.{false, length, append-nil, refl, sym, ap, ◌∙◌, subst, None}
 use Rattle.std.specs.FinMap as maps
-use Rattle.access_vectors.specs.Phases.{number_of, is_pending}
 use Rattle.manager_history.specs.declared.entry.Entry.TheVariants as entry
-use Rattle.manager_history.specs.Kept.{ack_answer, is_done}
-use Rattle.managed_run.specs.Kinds.{kind_of, phase_of, IsUncalled}
+use Rattle.managed_run.specs.Kinds.{kind_of, IsUncalled}
 use Rattle.managed_run.specs.Laws.{alternates_lawful}
 use Rattle.managed_run.specs.Changes.{HasFound}
 use Rattle.epoch_gate.specs.Known.{seen_by}
-use Rattle.managed_run.proofs.Reading as reading
 use Rattle.managed_run.proofs.Keeping as keeping
 use Rattle.managed_run.proofs.Changing as changing
-use Rattle.gate_rule.proofs.Histories.{nothing_added, one_added}
+use Rattle.gate_rule.specs.History.{last_notice}
 use Rattle.managed_run.proofs.station.Station.update.Goals as goal
 
 pub give_admin-requires-clause-value : goal.give_admin-requires-clause-value
@@ -43,3 +39,17 @@ returns-clause-turned g c =
       current = gave.same.number ∙ took.same.number;
       at_version = gave.same.version ∙ took.same.version;
     }
+
+pub returns-clause-current : goal.returns-clause-current
+returns-clause-current g c =
+    let took = c.take_admin-keeper.ensures in
+    let told = c.update-left.ensures in
+    let gave = c.give_admin.ensures in
+    changing.current_is _ c.update-left.new.self.history (alternates_lawful g.C.Core.plain g.C.Core.formed _ _ c.update-left.new.self.history c.entries-kept.ensures.lawful) c.give_admin.new.admin gave.seen
+    (ap (last_notice kind_of) told.history ∙ (took.learns.1.last ∙ (λ i. (sym (gave.same.number ∙ took.same.number) i, sym (gave.same.version ∙ took.same.version) i))))
+
+pub returns-clause-rests : goal.returns-clause-rests
+returns-clause-rests g c = (returns-clause-turned g c).found.rests
+
+pub returns-clause-clear : goal.returns-clause-clear
+returns-clause-clear g c = let told = returns-clause-turned g c in changing.stays_clear None None c.args.admin.now c.give_admin.new.admin told.turn told.found.clear (λ none. refl)
