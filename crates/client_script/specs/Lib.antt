@@ -1,0 +1,4 @@
+pub mod Scripts
+pub mod Clients
+pub mod Underway
+pub mod Splitting

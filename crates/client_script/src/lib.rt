@@ -1,0 +1,14 @@
+//! The script of a client, run at the stations of the three managers.
+//!
+//! A call without a held pass takes one for itself and gives it back; `begin` takes a pass and holds it, `end` gives it back.
+//! Each of the client's calls then stands once among its own entries of that manager, in the script's order.
+#![tactic(auto)]
+
+mod lines;
+mod script;
+mod split;
+mod stations;
+
+pub use script::run_script;
+pub use split::{Scripts, split};
+pub use stations::{Seats, Stations};
