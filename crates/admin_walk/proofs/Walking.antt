@@ -6,7 +6,7 @@ use Rattle.access_vectors.specs.Phases.{number_of, is_pending}
 use Rattle.managed.specs.Seen.{Seen, Turn}
 use Rattle.change_protocol.specs.Changes.{Led, AreBoth}
 use Rattle.session_text.specs.declared.session.RunLine.{RunLine}
-use Rattle.admin_walk.specs.Walks.{Stand, Given, Step, Walks, stand_of}
+use Rattle.admin_walk.specs.Walks.{Stand, Given, Step, Walks, stand_of, own_lines}
 use Rattle.admin_walk.specs.Moves.{AreTold, HasGrown, HasGrownShort, HaveGrown, IsReady, HasActed, HasStopped, HasRun, HasRunShort}
 use Rattle.admin_walk.proofs.Giving.{unmoved, still_told, have_grown_on, grown_on, same_at, same_on}
 
@@ -32,7 +32,7 @@ module _ {Decider Manager : Type 0} (decides : Decider → Decisions) (seen : Ma
     pub many : length now.managers ≡ length start.managers
     pub decider : now.server.decider ≡ start.server.decider
     pub most : now.server.most ≡ start.server.most
-    pub number : number_of now.server.phase + length left ≤ number_of start.server.phase + length all
+    pub number : number_of now.server.phase + own_lines left ≤ number_of start.server.phase + own_lines all
     pub reached : is_pending now.server.phase ≡ true → length now.managers ≤ now.reached
     pub alike : (place : ℕ) → AreBoth same (slice_get start.managers place) (slice_get now.managers place)
 

@@ -11,7 +11,7 @@ use Rattle.change_protocol.specs.declared.answers.NotifyAllFault.TheVariants as 
 use Rattle.session_text.specs.declared.session.Run.{Run}
 use Rattle.session_text.specs.declared.session.Run.TheVariants as run
 use Rattle.session_text.specs.declared.session.RunLine.{RunLine}
-use Rattle.admin_walk.specs.Walks.{Given, Rest, IsNoticeTurn, is_clear, Step, Walks, stand_of}
+use Rattle.admin_walk.specs.Walks.{Given, Rest, IsNoticeTurn, is_clear, Step, Walks, stand_of, is_administrators, one_if}
 use Rattle.admin_walk.specs.Explained.{Explains}
 
 -- memory was wanted while managers were given a notice
@@ -73,7 +73,7 @@ module _ {Manager : Type 0} (seen : Manager → Seen) where
     pub reached : is_pending led.server.phase ≡ true → length led.managers ≤ led.reached
 
   -- a line was run: it made such a step, and each manager's turns grew by those that the line gave it. No manager came or went, the
-  -- decider and the last number that may be made stay, and the number rises by at most one.
+  -- decider and the last number that may be made stay, and the number rises by at most one, and by an own line alone.
   pub record HasActed {Decider : Type 0} (versions : ℕ) (run : Run) (was now : Led Decider Manager) : Type 0 where
     pub given : Given
     pub step : Step versions (length was.managers) (stand_of was.server) run given (stand_of now.server)
@@ -81,7 +81,7 @@ module _ {Manager : Type 0} (seen : Manager → Seen) where
     pub many : length now.managers ≡ length was.managers
     pub decider : now.server.decider ≡ was.server.decider
     pub most : now.server.most ≡ was.server.most
-    pub number : number_of now.server.phase ≤ number_of was.server.phase + 1
+    pub number : number_of now.server.phase ≤ number_of was.server.phase + one_if (is_administrators run)
     pub reached : is_pending now.server.phase ≡ true → length now.managers ≤ now.reached
 
   -- lines were run: they make such a walk, and each manager's turns grew by those that it was given

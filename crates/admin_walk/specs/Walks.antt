@@ -109,6 +109,23 @@ abbrev pub AskStep : Bool → ℕ → Stand → Given → Stand → Type 0
 AskStep forced count (Rest number) given next = IsStill count (Rest number) given next
 AskStep forced count (Under number receipts) given next = AsksAll forced count number receipts given next
 
+-- a line is the administrator's
+abbrev pub is_administrators : Run → Bool
+is_administrators (run.Notify version) = true
+is_administrators (run.Update most) = true
+is_administrators run.Ack = true
+is_administrators run.Force = true
+is_administrators other = false
+
+-- 1 for one of its lines, and else 0; and how many of these lines are its own
+abbrev pub one_if : Bool → ℕ
+one_if true = 1
+one_if false = 0
+
+abbrev pub own_lines : List RunLine → ℕ
+own_lines [] = 0
+own_lines (line ∷ lines) = one_if (is_administrators line.run) + own_lines lines
+
 -- what a line gives to so many managers, and where the change stands then
 abbrev pub Step : ℕ → ℕ → Stand → Run → Given → Stand → Type 0
 Step versions count at (run.Update most) given next = GivesEach count (IsUpdateTurn most) given × (next ≡ at)

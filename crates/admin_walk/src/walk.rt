@@ -3,6 +3,7 @@
 ghost use Rattle.std.specs.Prelude.{◌≡◌, ◌<◌, ◌+◌, ℕ, false, length, slice_get, OnOk, OnErr};
 ghost use Rattle.access_vectors.specs.Phases.{number_of, is_pending};
 ghost use Rattle.change_protocol.specs.Changes.{AreBoth};
+ghost use Rattle.admin_walk.specs.Walks.{is_administrators, own_lines};
 ghost use Rattle.admin_walk.specs.Moves.{AreTold, IsReady, HasActed, HasStopped, HasRun, HasRunShort, IsExplained};
 
 use crate::lines::act;
@@ -19,7 +20,9 @@ use std::sync::Wait;
 const ADMINISTRATOR: u8 = 255;
 
 /// Whether a line is the administrator's.
-fn is_administrators(run: &Run) -> bool {
+fn is_own(run: &Run) -> bool
+    ensures { result ≡ is_administrators run.now }
+{
     matches!(
         run,
         Run::Notify { .. } | Run::Update { .. } | Run::Ack | Run::Force
@@ -41,7 +44,7 @@ fn run_line<R: Wait, D: Decider, M: Managed, G: Stops>(
     ensures err { OnErr result (HasStopped M.seen (D.decides changes.old.server.decider).versions line.now.run changes.old changes.new) }
     ensures same { (place : ℕ) → AreBoth M.same (slice_get changes.old.managers place) (slice_get changes.new.managers place) }
 {
-    let own = is_administrators(&line.run);
+    let own = is_own(&line.run);
     if own {
         stops.before(rt, ADMINISTRATOR, line.line);
     }
@@ -65,7 +68,7 @@ pub fn run_admin_lines<R: Wait, D: Decider, M: Managed, G: Stops>(
     requires settled { is_pending changes.old.server.phase ≡ false }
     requires told { AreTold M.seen changes.old.managers }
     requires three { length changes.old.managers ≡ 3 }
-    requires room { number_of changes.old.server.phase + length lines.now < changes.old.server.most }
+    requires room { number_of changes.old.server.phase + own_lines lines.now < changes.old.server.most }
     ensures ok { OnOk result (HasRun M.seen (D.decides changes.old.server.decider).versions lines.now changes.old changes.new) }
     ensures explained { OnOk result (IsExplained M.seen (D.decides changes.old.server.decider).versions lines.now changes.old changes.new) }
     ensures err { OnErr result (HasRunShort M.seen (D.decides changes.old.server.decider).versions lines.now changes.old changes.new) }
@@ -88,7 +91,7 @@ pub fn run_admin<R: Wait, D: Decider, M: Managed, G: Stops>(
     requires settled { is_pending changes.old.server.phase ≡ false }
     requires told { AreTold M.seen changes.old.managers }
     requires three { length changes.old.managers ≡ 3 }
-    requires room { number_of changes.old.server.phase + length session.now.lines < changes.old.server.most }
+    requires room { number_of changes.old.server.phase + own_lines session.now.lines < changes.old.server.most }
     ensures ok { OnOk result (HasRun M.seen (D.decides changes.old.server.decider).versions session.now.lines changes.old changes.new) }
     ensures explained { OnOk result (IsExplained M.seen (D.decides changes.old.server.decider).versions session.now.lines changes.old changes.new) }
     ensures err { OnErr result (HasRunShort M.seen (D.decides changes.old.server.decider).versions session.now.lines changes.old changes.new) }
