@@ -1,5 +1,5 @@
 use Rattle.std.proofs.Common.{◌≡◌, ◌≤◌, take}
-use Rattle.history_text.specs.Counts.{counts_of as counted}
+use Rattle.history_text.specs.Counting.{counts_of as counted}
 use Rattle.history_text.proofs.counts.counts_of.Given as goal
 
 abbrev pub invariant-entries : goal.invariant-entries
