@@ -1,7 +1,8 @@
 //! What stands in front of a reply: the line of the call, the client, the manager and the policy number.
 
 ghost use Rattle.std.specs.Prelude.{◌≡◌, ◌++◌, OnOk};
-ghost use Rattle.text_print.specs.Printed.{spaced};
+ghost use Rattle.std.specs.List.{flat_map};
+ghost use Rattle.text_print.specs.Printed.{behind, spaced};
 ghost use Rattle.answer_text.specs.Fronts;
 
 use flask_sid::{Memory, Piece};
@@ -28,4 +29,11 @@ pub fn put_front(out: &mut Piece, clients: &[ClientLine], front: Front) -> Resul
     put_word(out, client_name(clients, front.client))?;
     put_manager(out, front.manager)?;
     put_numeral(out, u64::from(front.number))
+}
+
+/// Puts what stands for a reply where a call was aborted, behind a space.
+pub fn put_aborted(out: &mut Piece) -> Result<(), Memory>
+    ensures { OnOk result (out.new ≡ out.old ++ flat_map behind Fronts.aborted_words) }
+{
+    put_word(out, b"aborted")
 }

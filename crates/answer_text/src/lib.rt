@@ -4,5 +4,5 @@
 mod fronts;
 mod replies;
 
-pub use fronts::{Front, put_front};
+pub use fronts::{Front, put_aborted, put_front};
 pub use replies::Worded;

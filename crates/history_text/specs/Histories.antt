@@ -6,7 +6,7 @@ use Rattle.manager_history.specs.declared.entry.Entry.TheVariants.{Op, Aborted, 
 use Rattle.session_forms.specs.declared.run_forms.Manager.{Manager}
 use Rattle.session_print.specs.Words.{manager_word}
 use Rattle.session_text.specs.declared.session.ClientLine.{ClientLine}
-use Rattle.answer_text.specs.Fronts.{front_words}
+use Rattle.answer_text.specs.Fronts.{front_words, aborted_words}
 use Rattle.answer_text.specs.declared.fronts.Front.{Front}
 
 -- the line above a manager's entries
@@ -24,7 +24,7 @@ front_of line client manager number = record { line = line; client = client; man
 -- the line of an entry, by the words of a reply: a call with what it got, a notice with its version, or an acknowledgement
 abbrev pub entry_words : {Call Reply : Type 0} → (Reply → List (List ℕ)) → List ClientLine → Manager → Entry Call Reply → List (List ℕ)
 entry_words words clients manager (Op caller mark call number asked reply) = front_words clients (front_of mark caller manager number) ++ words reply
-entry_words words clients manager (Aborted caller mark call number) = front_words clients (front_of mark caller manager number) ++ codes "aborted" ∷ []
+entry_words words clients manager (Aborted caller mark call number) = front_words clients (front_of mark caller manager number) ++ aborted_words
 entry_words words clients manager (Notice number version) = event_words (codes "notice") number ++ decimal version ∷ []
 entry_words words clients manager (Ack number) = event_words (codes "ack") number
 entry_words words clients manager (Forced number) = event_words (codes "forced") number

@@ -1,2 +1,2 @@
 pub mod Histories
-pub mod Counts
+pub mod Counting

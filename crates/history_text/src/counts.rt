@@ -1,7 +1,7 @@
 //! What the summary counts of a history.
 
-ghost use Rattle.std.specs.Prelude.{◌≡◌, ◌≤◌, ◌<◌, ◌^◌, length};
-ghost use Rattle.history_text.specs.Counts;
+ghost use Rattle.std.specs.Prelude.{◌≡◌, ◌+◌, ◌<◌, ◌^◌};
+ghost use Rattle.history_text.specs.Counting;
 
 use answer_text::Worded;
 use manager_history::Entry;
@@ -16,7 +16,7 @@ pub struct Counts {
 
 /// The counts of a history.
 pub fn counts_of<K, R: Worded>(history: &[Entry<K, R>]) -> Counts
-    ensures { result ≡ Counts.counts_of R.is_denial history.now }
+    ensures { result ≡ Counting.counts_of R.is_denial history.now }
 {
     let mut counts = Counts {
         calls: 0,
@@ -34,7 +34,7 @@ fn with_entry<K, R: Worded>(counts: Counts, entry: &Entry<K, R>) -> Counts
     requires calls { counts.calls + 1 < 2 ^ 64 }
     requires denied { counts.denied + 1 < 2 ^ 64 }
     requires changes { counts.changes + 1 < 2 ^ 64 }
-    ensures { result ≡ Counts.with_entry R.is_denial counts entry.now }
+    ensures { result ≡ Counting.with_entry R.is_denial counts entry.now }
 {
     match entry {
         Entry::Op { reply, .. } => Counts {

@@ -4,13 +4,13 @@ ghost use Rattle.std.specs.Prelude.{◌≡◌, ◌++◌, OnOk};
 ghost use Rattle.text_print.specs.Printed.{spaced, ended};
 ghost use Rattle.history_text.specs.Histories;
 
-use answer_text::{Front, Worded, put_front};
+use answer_text::{Front, Worded, put_aborted, put_front};
 use flask_sid::{Memory, Piece, SidTable};
 use manager_history::Entry;
 use session_forms::Manager;
 use session_print::put_manager;
 use session_text::ClientLine;
-use text_print::{put_numeral, put_word};
+use text_print::put_numeral;
 
 /// Puts the line above a manager's entries, with its line end.
 pub fn put_heading(out: &mut Piece, manager: Manager) -> Result<(), Memory>
@@ -64,7 +64,7 @@ fn put_words<K, R: Worded>(
         } => {
             let front = front_of(*mark, *caller, manager, *number);
             put_front(out, clients, front)?;
-            put_word(out, b"aborted")
+            put_aborted(out)
         }
         Entry::Notice { number, version } => {
             put_event(out, b"notice", *number)?;
