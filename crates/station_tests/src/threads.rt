@@ -7,9 +7,10 @@ ghost use Rattle.epoch_gate.specs.Known.{IsIdle, HasNoPass, seats_made};
 
 use crate::board::{
     Board, Chair, Counting, Office, called, change_often, entered, fresh_keeper, left, opened,
-    scripted,
+    opened_slot, replied, scripted,
 };
 use crate::lawful::given_again;
+use access_vectors::perms::FILE_READ;
 use example_board::{BoardCall, BoardCore, BoardReply};
 use managed_run::Held;
 use manager_history::{Answer, Entry, Keeper};
@@ -256,5 +257,80 @@ fn two_thousand_turns(rt: HostRuntime) -> Result<(), Fail> {
         again: 2000,
     };
     assert_eq!(rt; found, (wanted, 0));
+    Ok(())
+}
+
+/// Reads through an open slot, a pass a read, until a read is denied: the reply then, and whether each one before was the
+/// number on the board.
+fn read_until_denied<'d, R: Wait>(
+    rt: &R,
+    alloc: Global,
+    board: &Board<'d>,
+    mut seat: Chair<'d>,
+) -> (Chair<'d>, Option<BoardReply>)
+    requires board { length board.now.fixed.opening.core.opening.clients ≡ 2 }
+    requires seat { IsOfGate board.now seat × IsIdle seat }
+    ensures { IsOfGate board.entry.now result.0 × IsIdle result.0 × HasNoPass result.0 }
+{
+    let mut last = None;
+    for _ in rt.forever() {
+        let _ = entered(board, &mut seat);
+        last = replied(rt, alloc, board, &mut seat, BoardCall::Read { slot: 0 });
+        left(board, &mut seat);
+        if last != Some(BoardReply::Number(0)) {
+            break;
+        }
+    }
+    left(board, &mut seat);
+    (seat, last)
+}
+
+/// A reader, beside whom the administrator changes the policy once.
+fn read_beside<'d, R: Threads + Wait + Sync>(
+    rt: &R,
+    alloc: Global,
+    board: &Board<'d>,
+    seat: Chair<'d>,
+    office: Office<'d>,
+) -> ((Chair<'d>, Option<BoardReply>), (Office<'d>, u32))
+    requires board { length board.now.fixed.opening.core.opening.clients ≡ 2 }
+    requires seat { IsOfGate board.now seat × IsIdle seat }
+    requires office { IsOfGate board.now office × IsIdle office }
+    requires made { 0 < seats_made office }
+{
+    join(
+        rt,
+        move || -> (Chair<'_>, Option<BoardReply>)
+            requires board { length board.now.fixed.opening.core.opening.clients ≡ 2 }
+            requires seat { IsOfGate board.now seat × IsIdle seat }
+        { read_until_denied(rt, alloc, board, seat) },
+        move || -> (Office<'_>, u32)
+            requires office { IsOfGate board.now office × IsIdle office }
+            requires made { 0 < seats_made office }
+        { changed(rt, alloc, board, office, 1) },
+    )
+}
+
+#[test]
+fn a_change_takes_a_right_while_a_thread_reads(rt: HostRuntime) -> Result<(), Fail> {
+    let alloc = rt.alloc();
+    let decider = counting();
+    let (board, mut office) = opened(alloc, &decider, 1, 536_870_912, 9)
+        .ok()
+        .ok_or("memory")?;
+    let mut seat = board.seat(&mut office)?;
+    assert_eq!(rt;
+        opened_slot(&rt, alloc, &board, &mut seat),
+        Some(BoardReply::Done)
+    );
+    let ((_seat, last), (_office, complete)) = read_beside(&rt, alloc, &board, seat, office);
+    assert_eq!(rt; complete, 1);
+    assert_eq!(rt;
+        last,
+        Some(BoardReply::Denied {
+            perm: FILE_READ,
+            policy: 1
+        })
+    );
     Ok(())
 }
