@@ -3,21 +3,23 @@
 
 ghost use Rattle.std.specs.Prelude.{◌≡◌, ◌<◌, length, IfSome};
 ghost use Rattle.epoch_gate.specs.Seats.{IsOfGate};
-ghost use Rattle.epoch_gate.specs.Known.{IsIdle, HasNoPass, seats_made};
+ghost use Rattle.epoch_gate.specs.Known.{IsIdle, HasNoPass};
 
 use crate::board::{
-    Board, Chair, Counting, Office, called, change_often, entered, fresh_keeper, left, opened,
+    Board, Chair, Counting, Office, answered, called, entered, fresh_keeper, left, noticed, opened,
     opened_slot, replied, scripted,
 };
 use crate::lawful::given_again;
+use access_vectors::Steps;
 use access_vectors::perms::FILE_READ;
 use example_board::{BoardCall, BoardCore, BoardReply};
-use managed_run::Held;
-use manager_history::{Answer, Entry, Keeper};
+use manager_history::{Ack, Entry, Keeper};
 use retained_rights::EachBits;
 use std::alloc::Global;
+use std::marker::Brand;
 use std::sync::Wait;
 use std::sync::atomic::AtomicU64;
+use std::sync::ledger::{Blank, Ledger};
 use std::test::Fail;
 use std::thread::{Threads, join};
 
@@ -72,20 +74,55 @@ fn beside<'d, R: Threads + Wait + Sync>(
     )
 }
 
-/// The administrator's work: so many changes.
+/// Lets at most 64 stale slots follow the pending number, under the blank's ledger: how many are left.
+fn updated<'d, R: Wait, L: Ledger>(
+    rt: &R,
+    board: &Board<'d>,
+    office: &mut Office<'d>,
+    blank: Blank,
+) -> u64
+    requires name { blank.name ≡ L.name }
+    requires parts { blank.parts ≡ L.parts }
+    requires some { 0 < L.parts }
+    requires office { IsOfGate board.now office.old × IsIdle office.old }
+    ensures { IsOfGate board.now office.new × IsIdle office.new }
+{
+    let mut steps = Steps::<L>::new(blank);
+    board.update(rt, office, 64, &mut steps)
+}
+
+/// Updates slots, and tries to acknowledge where none is stale, until that is done.
+fn completed<'d, R: Wait>(rt: &R, board: &Board<'d>, office: &mut Office<'d>)
+    requires { IsOfGate board.now office.old × IsIdle office.old }
+    ensures { IsOfGate board.now office.new × IsIdle office.new }
+{
+    for _ in rt.forever() {
+        let left = updated::<R, Brand>(rt, board, office, Blank::new(1));
+        if left == 0 && matches!(answered(rt, board, office), Ack::Done(_)) {
+            return;
+        }
+    }
+}
+
+/// The administrator's work: so many changes, between the two versions, each until it is done.
 fn changed<'d, R: Wait>(
     rt: &R,
     alloc: Global,
     board: &Board<'d>,
-    office: Office<'d>,
+    mut office: Office<'d>,
     times: u32,
 ) -> (Office<'d>, u32)
-    requires office { IsOfGate board.now office × IsIdle office }
-    requires made { 0 < seats_made office }
+    requires { IsOfGate board.now office × IsIdle office }
     ensures { IsOfGate board.entry.now result.0 × IsIdle result.0 }
 {
-    let (held, complete) = change_often(rt, alloc, Held::new(board, office), times);
-    (held.release(), complete)
+    let mut complete = 0u32;
+    for number in 0..times {
+        if noticed(rt, alloc, board, &mut office, u8::from(number % 2 == 0)).is_ok() {
+            completed(rt, board, &mut office);
+            complete = complete.saturating_add(1);
+        }
+    }
+    (office, complete)
 }
 
 /// How much is done: calls of each caller, and changes.
@@ -108,7 +145,6 @@ fn changed_beside<'d, R: Threads + Wait + Sync>(
     requires one { IsOfGate board.now seats.0 × IsIdle seats.0 }
     requires two { IsOfGate board.now seats.1 × IsIdle seats.1 }
     requires office { IsOfGate board.now office × IsIdle office }
-    requires made { 0 < seats_made office }
     ensures one { IsOfGate board.entry.now result.0.0 × IsIdle result.0.0 × HasNoPass result.0.0 }
     ensures two { IsOfGate board.entry.now result.0.1 × IsIdle result.0.1 × HasNoPass result.0.1 }
     ensures office { IsOfGate board.entry.now result.1.0 × IsIdle result.1.0 }
@@ -125,7 +161,6 @@ fn changed_beside<'d, R: Threads + Wait + Sync>(
         { beside(rt, alloc, board, seats, turns) },
         move || -> (Office<'_>, u32)
             requires office { IsOfGate board.now office × IsIdle office }
-            requires made { 0 < seats_made office }
             ensures { IsOfGate board.entry.now result.0 × IsIdle result.0 }
         { changed(rt, alloc, board, office, times) },
     )
@@ -296,7 +331,6 @@ fn read_beside<'d, R: Threads + Wait + Sync>(
     requires board { length board.now.fixed.opening.core.opening.clients ≡ 2 }
     requires seat { IsOfGate board.now seat × IsIdle seat }
     requires office { IsOfGate board.now office × IsIdle office }
-    requires made { 0 < seats_made office }
 {
     join(
         rt,
@@ -306,7 +340,6 @@ fn read_beside<'d, R: Threads + Wait + Sync>(
         { read_until_denied(rt, alloc, board, seat) },
         move || -> (Office<'_>, u32)
             requires office { IsOfGate board.now office × IsIdle office }
-            requires made { 0 < seats_made office }
         { changed(rt, alloc, board, office, 1) },
     )
 }
