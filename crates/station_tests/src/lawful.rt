@@ -1,7 +1,7 @@
 //! A closed history, judged by the plain manager: done again call by call, each entry has the same reply and the same
 //! questions.
 
-ghost use Rattle.std.specs.Prelude.{◌≡◌, ◌<◌, ◌×◌, true, length, IsTrue};
+ghost use Rattle.std.specs.Prelude.{◌≡◌, ◌<◌, true, length, IsTrue};
 ghost use Rattle.access_vectors.specs.Phases.{MayName};
 ghost use Rattle.example_board.specs.Plain.{IsCall};
 

@@ -4,6 +4,8 @@
 #[cfg(test)]
 mod board;
 #[cfg(test)]
+mod fake;
+#[cfg(test)]
 mod lawful;
 #[cfg(test)]
 mod threads;

@@ -3,20 +3,23 @@
 
 ghost use Rattle.std.specs.Prelude.{◌≡◌, ◌<◌, length, IfSome};
 ghost use Rattle.epoch_gate.specs.Seats.{IsOfGate};
-ghost use Rattle.epoch_gate.specs.Known.{IsIdle, HasNoPass, seats_made};
+ghost use Rattle.epoch_gate.specs.Known.{IsIdle, HasNoPass};
 
 use crate::board::{
-    Board, Chair, Counting, Office, called, change_often, entered, fresh_keeper, left, opened,
-    scripted,
+    Board, Chair, Counting, Office, answered, called, entered, fresh_keeper, left, noticed, opened,
+    opened_slot, replied, scripted,
 };
 use crate::lawful::given_again;
+use access_vectors::Steps;
+use access_vectors::perms::FILE_READ;
 use example_board::{BoardCall, BoardCore, BoardReply};
-use managed_run::Held;
-use manager_history::{Answer, Entry, Keeper};
+use manager_history::{Ack, Entry, Keeper};
 use retained_rights::EachBits;
 use std::alloc::Global;
+use std::marker::Brand;
 use std::sync::Wait;
 use std::sync::atomic::AtomicU64;
+use std::sync::ledger::{Blank, Ledger};
 use std::test::Fail;
 use std::thread::{Threads, join};
 
@@ -71,20 +74,55 @@ fn beside<'d, R: Threads + Wait + Sync>(
     )
 }
 
-/// The administrator's work: so many changes.
+/// Lets at most 64 stale slots follow the pending number, under the blank's ledger: how many are left.
+fn updated<'d, R: Wait, L: Ledger>(
+    rt: &R,
+    board: &Board<'d>,
+    office: &mut Office<'d>,
+    blank: Blank,
+) -> u64
+    requires name { blank.name ≡ L.name }
+    requires parts { blank.parts ≡ L.parts }
+    requires some { 0 < L.parts }
+    requires office { IsOfGate board.now office.old × IsIdle office.old }
+    ensures { IsOfGate board.now office.new × IsIdle office.new }
+{
+    let mut steps = Steps::<L>::new(blank);
+    board.update(rt, office, 64, &mut steps)
+}
+
+/// Updates slots, and tries to acknowledge where none is stale, until that is done.
+fn completed<'d, R: Wait>(rt: &R, board: &Board<'d>, office: &mut Office<'d>)
+    requires { IsOfGate board.now office.old × IsIdle office.old }
+    ensures { IsOfGate board.now office.new × IsIdle office.new }
+{
+    for _ in rt.forever() {
+        let left = updated::<R, Brand>(rt, board, office, Blank::new(1));
+        if left == 0 && matches!(answered(rt, board, office), Ack::Done(_)) {
+            return;
+        }
+    }
+}
+
+/// The administrator's work: so many changes, between the two versions, each until it is done.
 fn changed<'d, R: Wait>(
     rt: &R,
     alloc: Global,
     board: &Board<'d>,
-    office: Office<'d>,
+    mut office: Office<'d>,
     times: u32,
 ) -> (Office<'d>, u32)
-    requires office { IsOfGate board.now office × IsIdle office }
-    requires made { 0 < seats_made office }
+    requires { IsOfGate board.now office × IsIdle office }
     ensures { IsOfGate board.entry.now result.0 × IsIdle result.0 }
 {
-    let (held, complete) = change_often(rt, alloc, Held::new(board, office), times);
-    (held.release(), complete)
+    let mut complete = 0u32;
+    for number in 0..times {
+        if noticed(rt, alloc, board, &mut office, u8::from(number % 2 == 0)).is_ok() {
+            completed(rt, board, &mut office);
+            complete = complete.saturating_add(1);
+        }
+    }
+    (office, complete)
 }
 
 /// How much is done: calls of each caller, and changes.
@@ -107,7 +145,6 @@ fn changed_beside<'d, R: Threads + Wait + Sync>(
     requires one { IsOfGate board.now seats.0 × IsIdle seats.0 }
     requires two { IsOfGate board.now seats.1 × IsIdle seats.1 }
     requires office { IsOfGate board.now office × IsIdle office }
-    requires made { 0 < seats_made office }
     ensures one { IsOfGate board.entry.now result.0.0 × IsIdle result.0.0 × HasNoPass result.0.0 }
     ensures two { IsOfGate board.entry.now result.0.1 × IsIdle result.0.1 × HasNoPass result.0.1 }
     ensures office { IsOfGate board.entry.now result.1.0 × IsIdle result.1.0 }
@@ -124,7 +161,6 @@ fn changed_beside<'d, R: Threads + Wait + Sync>(
         { beside(rt, alloc, board, seats, turns) },
         move || -> (Office<'_>, u32)
             requires office { IsOfGate board.now office × IsIdle office }
-            requires made { 0 < seats_made office }
             ensures { IsOfGate board.entry.now result.0 × IsIdle result.0 }
         { changed(rt, alloc, board, office, times) },
     )
@@ -256,5 +292,78 @@ fn two_thousand_turns(rt: HostRuntime) -> Result<(), Fail> {
         again: 2000,
     };
     assert_eq!(rt; found, (wanted, 0));
+    Ok(())
+}
+
+/// Reads through an open slot, a pass a read, until a read is denied: the reply then, and whether each one before was the
+/// number on the board.
+fn read_until_denied<'d, R: Wait>(
+    rt: &R,
+    alloc: Global,
+    board: &Board<'d>,
+    mut seat: Chair<'d>,
+) -> (Chair<'d>, Option<BoardReply>)
+    requires board { length board.now.fixed.opening.core.opening.clients ≡ 2 }
+    requires seat { IsOfGate board.now seat × IsIdle seat }
+    ensures { IsOfGate board.entry.now result.0 × IsIdle result.0 × HasNoPass result.0 }
+{
+    let mut last = None;
+    for _ in rt.forever() {
+        let _ = entered(board, &mut seat);
+        last = replied(rt, alloc, board, &mut seat, BoardCall::Read { slot: 0 });
+        left(board, &mut seat);
+        if last != Some(BoardReply::Number(0)) {
+            break;
+        }
+    }
+    left(board, &mut seat);
+    (seat, last)
+}
+
+/// A reader, beside whom the administrator changes the policy once.
+fn read_beside<'d, R: Threads + Wait + Sync>(
+    rt: &R,
+    alloc: Global,
+    board: &Board<'d>,
+    seat: Chair<'d>,
+    office: Office<'d>,
+) -> ((Chair<'d>, Option<BoardReply>), (Office<'d>, u32))
+    requires board { length board.now.fixed.opening.core.opening.clients ≡ 2 }
+    requires seat { IsOfGate board.now seat × IsIdle seat }
+    requires office { IsOfGate board.now office × IsIdle office }
+{
+    join(
+        rt,
+        move || -> (Chair<'_>, Option<BoardReply>)
+            requires board { length board.now.fixed.opening.core.opening.clients ≡ 2 }
+            requires seat { IsOfGate board.now seat × IsIdle seat }
+        { read_until_denied(rt, alloc, board, seat) },
+        move || -> (Office<'_>, u32)
+            requires office { IsOfGate board.now office × IsIdle office }
+        { changed(rt, alloc, board, office, 1) },
+    )
+}
+
+#[test]
+fn a_change_takes_a_right_while_a_thread_reads(rt: HostRuntime) -> Result<(), Fail> {
+    let alloc = rt.alloc();
+    let decider = counting();
+    let (board, mut office) = opened(alloc, &decider, 1, 536_870_912, 9)
+        .ok()
+        .ok_or("memory")?;
+    let mut seat = board.seat(&mut office)?;
+    assert_eq!(rt;
+        opened_slot(&rt, alloc, &board, &mut seat),
+        Some(BoardReply::Done)
+    );
+    let ((_seat, last), (_office, complete)) = read_beside(&rt, alloc, &board, seat, office);
+    assert_eq!(rt; complete, 1);
+    assert_eq!(rt;
+        last,
+        Some(BoardReply::Denied {
+            perm: FILE_READ,
+            policy: 1
+        })
+    );
     Ok(())
 }
