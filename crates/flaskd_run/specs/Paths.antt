@@ -63,8 +63,9 @@ found_text policy (answer.NoType name) = codes "notype " ++ name ++ codes "\n"
 found_text policy answer.NoPath = codes "none\n"
 found_text policy (answer.Found path) = path_text policy path
 
--- what `flow` and `enter` print of a policy that has these contexts
+-- what `flow` and `enter` print of a policy that has these contexts: nothing else is found there
 pub record IsPathText (policy : PolicyParts) (contexts : List (ContextOf (List ℕ))) (kind : Kind) (asked : PathAsked) (text : List ℕ) : Type 0 where
   pub found : PathAnswer
   pub is_found : IsFound policy contexts kind asked found
+  pub only : (other : PathAnswer) → IsFound policy contexts kind asked other → other ≡ found
   pub text_is : text ≡ found_text policy found

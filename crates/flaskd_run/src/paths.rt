@@ -1,10 +1,11 @@
 //! What `flow` and `enter` find in a policy.
 
-ghost use Rattle.std.specs.Prelude.{◌≡◌, ◌==◌, IfOk};
+ghost use Rattle.std.specs.Prelude.{◌≡◌, true, IfOk, IfSome};
 ghost use Rattle.std.specs.List.{position};
 ghost use Rattle.std.specs.Str.{bytes_eq};
 ghost use Rattle.policy_model.specs.declared.policy.KindLine.{KindLine};
 ghost use Rattle.policy_versions.specs.Compiling.{IsCatalogueOf, sids_of};
+ghost use Rattle.flow_query.specs.Hops.{is_node as is_node_of};
 ghost use Rattle.flaskd_run.specs.Paths;
 
 use command_line::PathAsked;
@@ -56,7 +57,8 @@ pub fn find(
 /// The node of that name: its place among the declared types, where some context has the type.
 #[tactic(auto, unfolding(crate::specs::Paths::node_named))]
 fn node_named(policy: &PolicyText, sids: &SidTable, name: &Name) -> Option<u8>
-    ensures { result ≡ Paths.node_named policy.now sids.now name.now }
+    ensures value { result ≡ Paths.node_named policy.now sids.now name.now }
+    ensures node { IfSome result (λ place. is_node_of policy.now sids.now place ≡ true) }
 {
     let place = place_named(policy.parts().kinds.as_slice(), name)?;
     if is_node(policy, sids, place) {
