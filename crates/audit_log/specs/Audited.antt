@@ -1,5 +1,5 @@
 -- Which questions have an audit line.
-use Rattle.std.specs.Prelude.{ℕ, ◌-◌, Bool, not, List, [], map, slice_index_or, if◌then◌else◌}
+use Rattle.std.specs.Prelude.{ℕ, Bool, not, List, [], map, if◌then◌else◌}
 use Rattle.std.specs.List.{list_any, filter}
 use Rattle.flask_sid.specs.declared.context.ContextOf.{ContextOf}
 use Rattle.access_vectors.specs.Table.{Permission}
@@ -9,12 +9,9 @@ use Rattle.manager_history.specs.declared.entry.Entry.TheVariants.{Op, Aborted, 
 use Rattle.policy_model.specs.declared.policy.Pattern.{Pattern}
 use Rattle.policy_model.specs.declared.policy.PolicyParts.{PolicyParts}
 use Rattle.policy_model.specs.Matching.{matches_permission}
+use Rattle.text_print.specs.Printed.{context_with}
 use Rattle.audit_log.specs.declared.audited.Acting.{Acting}
 use Rattle.audit_log.specs.declared.audited.AuditLine.{AuditLine}
-
--- the context of an identifier, by its place from 1; a number that is none has empty names
-abbrev pub context_with : List (ContextOf (List ℕ)) → ℕ → ContextOf (List ℕ)
-context_with contexts sid = slice_index_or contexts (sid - 1) (record { user = []; role = []; kind = [] })
 
 -- some of these lines on permissions matches a question of these types
 abbrev pub is_listed : PolicyParts → List Pattern → List ℕ → List ℕ → Permission → Bool

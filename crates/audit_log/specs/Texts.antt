@@ -3,9 +3,8 @@ use Rattle.std.specs.Prelude.{ℕ, Bool, true, false, List, [], ◌∷◌, ◌++
 use Rattle.flask_sid.specs.Contexts.{context_text}
 use Rattle.flask_sid.specs.declared.context.ContextOf.{ContextOf}
 use Rattle.access_vectors.specs.Table.{class_word, perm_word}
-use Rattle.text_print.specs.Printed.{ended}
+use Rattle.text_print.specs.Printed.{context_with, ended}
 use Rattle.access_vectors.specs.declared.asked.Asked.{Asked}
-use Rattle.audit_log.specs.Audited.{context_with}
 use Rattle.audit_log.specs.declared.audited.AuditLine.{AuditLine}
 
 -- how a question was answered

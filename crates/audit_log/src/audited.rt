@@ -1,6 +1,7 @@
 //! Which questions have an audit line.
 
 ghost use Rattle.std.specs.Prelude.{◌≡◌, IfOk, OnOk};
+ghost use Rattle.text_print.specs.Printed.{context_with};
 ghost use Rattle.audit_log.specs.Audited;
 
 use access_vectors::{Asked, Perm};
@@ -116,7 +117,7 @@ fn is_listed(policy: &PolicyParts, patterns: &[Pattern], s: &[u8], t: &[u8], per
 
 /// The type of an identifier's context.
 fn kind_of(sids: &SidTable, sid: Sid) -> &[u8]
-    ensures { result.now ≡ (Audited.context_with sids.now sid).kind }
+    ensures { result.now ≡ (context_with sids.now sid).kind }
 {
     match sids.context(sid) {
         None => &[],

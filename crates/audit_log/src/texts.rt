@@ -2,16 +2,14 @@
 
 ghost use Rattle.std.specs.Prelude.{◌≡◌, ◌∷◌, [], ◌++◌, IfOk, OnOk};
 ghost use Rattle.std.specs.List.{flat_map};
-ghost use Rattle.flask_sid.specs.Contexts.{context_text};
 ghost use Rattle.text_print.specs.Printed.{behind, spaced};
-ghost use Rattle.audit_log.specs.Audited;
 ghost use Rattle.audit_log.specs.Texts;
 
 use crate::audited::AuditLine;
 use access_vectors::{Asked, class_name, perm_name};
-use flask_sid::{Memory, Piece, Sid, SidTable};
+use flask_sid::{Memory, Piece, SidTable};
 use std::alloc::Global;
-use text_print::{put_context, put_numeral, put_word};
+use text_print::{put_label, put_numeral, put_word};
 
 /// An audit line with its line end, by the name of its client: which call, whether the question was granted or denied, its
 /// source and target as contexts, class, permission and policy number.
@@ -71,15 +69,4 @@ fn answer_word(yes: bool) -> &'static [u8]
     ensures { result.now ≡ Texts.answer_word yes }
 {
     if yes { b"granted" } else { b"denied" }
-}
-
-/// Puts the context of an identifier behind a space. A number that is none has a context of empty names.
-#[tactic(auto, unfolding(flask_sid::specs::Contexts::context_text))]
-fn put_label(out: &mut Piece, sids: &SidTable, sid: Sid) -> Result<(), Memory>
-    ensures { OnOk result (out.new ≡ out.old ++ behind (context_text (Audited.context_with sids.now sid))) }
-{
-    match sids.context(sid) {
-        None => put_word(out, b"::"),
-        Some(context) => put_context(out, context),
-    }
 }

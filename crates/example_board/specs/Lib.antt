@@ -1,6 +1,5 @@
 pub mod Plain
 pub mod Honest
-pub mod Keeping
 pub mod Boards
 pub mod Laws
 pub mod Serving

@@ -56,8 +56,7 @@ pub fn new<F: Callback>(alloc: Global, opening: BoardOpening, callback: F) -> Bo
 
 impl<F: Callback> Core for BoardCore<F> {
     ghost use Rattle.access_vectors.specs.declared.class.Class.TheVariants.{File};
-    ghost use Rattle.example_board.specs.Honest.{honest_answer};
-    ghost use Rattle.example_board.specs.Keeping.{formed_stays};
+    ghost use Rattle.example_board.specs.Honest.{honest_answer, formed_stays};
     ghost use Rattle.example_board.specs.Plain as plainly;
     ghost use Rattle.example_board.specs.Plain.{BoardState, IsFormed, opened_with};
     ghost use Rattle.example_board.specs.Boards as boards;

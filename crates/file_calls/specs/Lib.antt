@@ -8,4 +8,3 @@ pub mod SlotCalls
 pub mod Plain
 pub mod Example
 pub mod Honest
-pub mod Keeping

@@ -60,8 +60,7 @@ pub fn new<F: Callback + Drop>(
 
 impl<F: Callback> Core for FileCore<F> {
     ghost use Rattle.access_vectors.specs.declared.class.Class.TheVariants.{File};
-    ghost use Rattle.file_calls.specs.Honest.{honest_answer};
-    ghost use Rattle.file_calls.specs.Keeping.{formed_stays};
+    ghost use Rattle.file_calls.specs.Honest.{honest_answer, formed_stays};
     ghost use Rattle.file_calls.specs.Plain as plainly;
     ghost use Rattle.file_calls.specs.Plain.{IsFormed};
     ghost use Rattle.file_calls.specs.States.{FileState, opened_with};

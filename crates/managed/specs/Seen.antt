@@ -22,10 +22,18 @@ event_of (entry.Notice number version) = Notice number version
 event_of (entry.Ack number) = Acknowledgement number false
 event_of (entry.Forced number) = Acknowledgement number true
 
+-- a turn of the administrator at a manager: the event that it added or none, how many older passes it counted where it counted
+-- them, and how many stale slots it found and left
+pub record Turn : Type 0 where
+  pub added : Option Event
+  pub older : Option ℕ
+  pub found : ℕ
+  pub left : ℕ
+
 -- what the administrator sees of a manager: its number, where its change of policy stands, its history, the last policy
 -- number that may be made, how many versions there are, how many tries of a change there were, and what the last one showed.
 -- A manager on one thread tells besides how many older passes are held, what number each used slot follows, and which slots
--- are stale; a manager that threads share tells a list of what each of its turns added.
+-- are stale; a manager that threads share tells a list of its turns.
 pub record Seen : Type 0 where
   pub manager : ℕ
   pub phase : Phase
@@ -37,7 +45,7 @@ pub record Seen : Type 0 where
   pub older : Option ℕ
   pub follows : Option Follows
   pub stale : Option (List ℕ)
-  pub items : Option (List (Option Event))
+  pub items : Option (List Turn)
 
 -- an event is a caller's operation
 abbrev pub IsOperation : Event → Type 0
@@ -51,15 +59,23 @@ pub record IsGrown (alone : Bool) (old new added : List Event) : Type 0 where
   pub none : IsTrue alone → between ≡ []
   pub grown : new ≡ old ++ between ++ added
 
--- where they are told, the items grew by one
-abbrev pub HasItem : Option (List (Option Event)) → Option (List (Option Event)) → Option Event → Type 0
-HasItem None new added = new ≡ None
-HasItem (Some items) new added = new ≡ Some (items ++ added ∷ [])
+-- where turns are told, they grew by one, of which this is known
+abbrev pub HasItem : Option (List Turn) → Option (List Turn) → (Turn → Type 0) → Type 0
+HasItem None new is = new ≡ None
+HasItem (Some items) new is = (turn : Turn) × is turn × (new ≡ Some (items ++ turn ∷ []))
 
--- where they are told, the items grew by one without an event, or stayed
-abbrev pub MayHaveItem : Option (List (Option Event)) → Option (List (Option Event)) → Type 0
+-- where turns are told, they grew by one without an event, or stayed
+abbrev pub MayHaveItem : Option (List Turn) → Option (List Turn) → Type 0
 MayHaveItem None new = new ≡ None
-MayHaveItem (Some items) new = (new ≡ Some items) ⊎ (new ≡ Some (items ++ None ∷ []))
+MayHaveItem (Some items) new = (new ≡ Some items) ⊎ ((turn : Turn) × (turn.added ≡ None) × (new ≡ Some (items ++ turn ∷ [])))
+
+-- a turn is the try that was shown: it added this, counted so many older passes, and found and left as many stale slots as were
+-- shown
+pub record IsShownTry (shown : Shown) (added : Option Event) (older : Option ℕ) (turn : Turn) : Type 0 where
+  pub added_is : turn.added ≡ added
+  pub older_is : turn.older ≡ older
+  pub found_is : turn.found ≡ shown.found
+  pub left_is : turn.left ≡ shown.left
 
 -- what no call of the administrator changes
 pub record IsSame (old new : Seen) : Type 0 where
@@ -85,7 +101,7 @@ pub record IsNoticed (version : ℕ) (old new : Seen) (number : ℕ) : Type 0 wh
   pub number_is : number ≡ number_of old.phase + 1
   pub phase : new.phase ≡ noticed old.phase number version
   pub history : IsGrown (is_some old.follows) old.history new.history (Notice number version ∷ [])
-  pub items : HasItem old.items new.items (Some (Notice number version))
+  pub items : HasItem old.items new.items (λ turn. turn.added ≡ Some (Notice number version))
 
 -- a notice that was refused
 pub record IsNotNoticed (version : ℕ) (old new : Seen) (fault : NotifyFault) : Type 0 where
@@ -124,7 +140,7 @@ pub record IsUpdated (most : ℕ) (old new : Seen) (left : ℕ) : Type 0 where
   pub left_is : left ≡ new.shown.left
   pub phase : new.phase ≡ old.phase
   pub history : IsGrown (is_some old.follows) old.history new.history []
-  pub items : HasItem old.items new.items None
+  pub items : HasItem old.items new.items (IsShownTry new.shown None None)
   pub older : new.older ≡ old.older
   pub follows : new.follows ≡ revised_follows most old.phase old.stale old.follows
   pub stale : new.stale ≡ option_map (drop most) old.stale
@@ -143,6 +159,11 @@ abbrev pub settled_follows : Phase → Bool → Option Follows → Option Follow
 settled_follows phase false follows = follows
 settled_follows phase true follows = option_map (all_following (number_of phase)) follows
 
+-- the older passes that it counts: a forced one counts none
+abbrev pub older_counted : Bool → Shown → Option ℕ
+older_counted false shown = Some shown.older
+older_counted true shown = None
+
 -- the older passes that it shows: those that it waits for, where they are told; and a forced one waits for none
 abbrev pub ShowsOlder : Bool → Option ℕ → ℕ → Type 0
 ShowsOlder false told shown = IfSome told (λ older. shown ≡ older)
@@ -155,7 +176,7 @@ pub record IsTried (forced : Bool) (old new : Seen) (done : Bool) : Type 0 where
   pub older_shown : ShowsOlder forced old.older new.shown.older
   pub found_shown : IfSome old.stale (λ stale. new.shown.found ≡ length stale)
   pub left_shown : new.shown.left ≡ new.shown.found
-  pub items : HasItem old.items new.items (acknowledging_item forced old.phase done)
+  pub items : HasItem old.items new.items (IsShownTry new.shown (acknowledging_item forced old.phase done) (older_counted forced new.shown))
 
 -- where no change is pending an acknowledgement is no try
 pub record IsIdle (old new : Seen) : Type 0 where

@@ -17,7 +17,7 @@ use Rattle.manager_history.specs.declared.entry.Entry.TheVariants as entry
 use Rattle.manager_history.specs.declared.answers.Ack.{Ack}
 use Rattle.manager_history.specs.Histories.{acknowledgement}
 use Rattle.manager_history.specs.Kept.{ack_answer, is_done}
-use Rattle.managed.specs.Seen.{Seen, IsSame, IsOperation, IsGrown, IsUntried, IsNotified, IsUpdated, IsAcknowledged, IsTriedWhere, ShowsOlder, answer_of, event_of, acknowledging, acknowledging_item, settled_follows}
+use Rattle.managed.specs.Seen.{Seen, Turn, IsSame, IsOperation, IsGrown, IsUntried, IsNotified, IsUpdated, IsAcknowledged, IsTriedWhere, IsShownTry, ShowsOlder, answer_of, event_of, acknowledging, acknowledging_item, older_counted, settled_follows}
 use Rattle.managed.specs.declared.managed.Event.{Event}
 use Rattle.managed.specs.declared.managed.Event.TheVariants as event
 use Rattle.managed.specs.declared.managed.Shown.{Shown as Showing}
@@ -28,7 +28,7 @@ use Rattle.epoch_gate.specs.Known.{seen_by, seats_made, turns_had, stale_found, 
 use Rattle.managed_run.specs.declared.docket.Opened.{Opened}
 use Rattle.managed_run.specs.Kinds.{kind_of, phase_of}
 use Rattle.managed_run.specs.Changes.{HasFound, HasTurned, HasNotified, HasTurnedNone, HasAcknowledged, HasCounted, KeepsSeats, counts_passes, entries_if, item_if}
-use Rattle.managed_run.specs.Administering.{or_none, showing, last_shown, tries_of, IsClear, Holding, IsHolding, event_in, seen_of}
+use Rattle.managed_run.specs.Administering.{or_none, showing, last_shown, tries_of, IsClear, Holding, IsHolding, turn_of, seen_of}
 
 stays_empty : {A : Type 0} (xs ys : List A) → xs ++ ys ≡ xs → ys ≡ []
 stays_empty [] ys e = e
@@ -112,8 +112,8 @@ module _ {E : Type 0} where
   pub clear_more : (turns turns' : List (Item E)) (item : Item E) → turns' ≡ turns ++ item ∷ [] → All IsClear turns → IsClear item → All IsClear turns'
   clear_more turns turns' item more all one = subst (All IsClear) (sym more) (All-push IsClear turns item all one)
 
-items_more : {Call Reply : Type 0} (turns turns' : List (Item (Entry Call Reply))) (item : Item (Entry Call Reply)) → turns' ≡ turns ++ item ∷ [] → Some (map event_in turns') ≡ Some (map event_in turns ++ event_in item ∷ [])
-items_more {Call} {Reply} turns turns' item more = ap (λ (l : List (Item (Entry Call Reply))). Some (map event_in l)) more ∙ ap (λ (l : List (Option Event)). Some l) (map-append event_in turns (item ∷ []))
+items_more : {Call Reply : Type 0} (turns turns' : List (Item (Entry Call Reply))) (item : Item (Entry Call Reply)) → turns' ≡ turns ++ item ∷ [] → Some (map turn_of turns') ≡ Some (map turn_of turns ++ turn_of item ∷ [])
+items_more {Call} {Reply} turns turns' item more = ap (λ (l : List (Item (Entry Call Reply))). Some (map turn_of l)) more ∙ ap (λ (l : List Turn). Some l) (map-append turn_of turns (item ∷ []))
 
 -- where nothing is pending nothing is done
 idle_answer : (phase : Phase) (manager older stale : ℕ) (said : Ack) → said ≡ ack_answer phase manager older stale → is_pending phase ≡ false → is_done said ≡ false
@@ -146,7 +146,7 @@ module _ {Core D Call Reply : Type 0} (decides : D → Decisions) where
           number_is = ok.number_is ∙ ap (λ (p : Phase). number_of p + 1) phase;
           phase = ap phase_of ok.seen ∙ (phase_more _ ok.before (entry.Notice number version ∷ []) ∙ ap (λ (p : Phase). noticed p number version) phase);
           history = grew (seen_by old.admin) ok.before (seen_by new.admin) (entry.Notice number version ∷ []) b ok.seen;
-          items = items_more (turns_had old.admin) (turns_had new.admin) _ ok.turn;
+          items = (_, refl, items_more (turns_had old.admin) (turns_had new.admin) _ ok.turn);
         };
         older = refl;
         follows = refl;
@@ -161,7 +161,7 @@ module _ {Core D Call Reply : Type 0} (decides : D → Decisions) where
           refused = subst (λ (p : Phase). IsRefusal (notice_fault p (decides old.site.fixed.decider).versions version old.site.fixed.most) fault) phase refused;
           phase = phase;
           history = grew (seen_by old.admin) (seen_by new.admin) (seen_by new.admin) [] b (sym (append-nil (seen_by new.admin)));
-          items = inr (items_more (turns_had old.admin) (turns_had new.admin) _ err.turn);
+          items = inr (_, refl, items_more (turns_had old.admin) (turns_had new.admin) _ err.turn);
         };
         older = refl;
         follows = refl;
@@ -183,7 +183,7 @@ module _ {Core D Call Reply : Type 0} (decides : D → Decisions) where
         left_is = left_is ∙ sym kept;
         phase = phase_between (seen_by old.admin) (seen_by new.admin) b;
         history = grew (seen_by old.admin) (seen_by new.admin) (seen_by new.admin) [] b (sym (append-nil (seen_by new.admin)));
-        items = items_more (turns_had old.admin) (turns_had new.admin) _ turned.turn;
+        items = (_, record { added_is = refl; older_is = refl; found_is = sym found; left_is = sym kept }, items_more (turns_had old.admin) (turns_had new.admin) _ turned.turn);
         older = refl;
         follows = refl;
         stale = refl;
@@ -192,6 +192,13 @@ module _ {Core D Call Reply : Type 0} (decides : D → Decisions) where
   looked_is : (p : Bool) (older : ℕ) (looked : Option ℕ) (a b : Shown (Entry Call Reply) D (Opened Core)) → HasCounted p older looked a b → older ≡ or_none looked
   looked_is true older looked a b h = sym (ap or_none h.0)
   looked_is false older looked a b h = h.1 ∙ sym (ap or_none h.0)
+
+  none_looked : (older : ℕ) (looked : Option ℕ) (pending : Bool) (a b : Shown (Entry Call Reply) D (Opened Core)) → HasCounted (counts_passes pending true) older looked a b → looked ≡ None
+  none_looked older looked pending a b h = h.0
+
+  looked_some : (p : Bool) (older : ℕ) (looked : Option ℕ) (a b : Shown (Entry Call Reply) D (Opened Core)) → p ≡ true → HasCounted p older looked a b → looked ≡ Some older
+  looked_some true older looked a b is h = h.0
+  looked_some false older looked a b is h = absurd (cc)
 
   none_older : (older : ℕ) (looked : Option ℕ) (pending : Bool) (a b : Shown (Entry Call Reply) D (Opened Core)) → HasCounted (counts_passes pending true) older looked a b → older ≡ 0
   none_older older looked pending a b h = h.1
@@ -221,21 +228,50 @@ module _ {Core D Call Reply : Type 0} (decides : D → Decisions) where
     shows false is = tt
     shows true is = sym older_is ∙ none_waited is
 
-    items : (seen new).items ≡ Some (map event_in (turns_had old.admin) ++ option_map event_of (item_if (is_done said) (acknowledgement {Call = Call} {Reply = Reply} forced (number_of (phase_of told.before)))) ∷ [])
+    turn : Turn
+    turn = record {
+      added = option_map event_of (item_if (is_done said) (acknowledgement {Call = Call} {Reply = Reply} forced (number_of (phase_of told.before))));
+      older = told.looked;
+      found = stale_found new.admin;
+      left = stale_left new.admin;
+    }
+
+    items : (seen new).items ≡ Some (map turn_of (turns_had old.admin) ++ turn ∷ [])
+    unfolding turn
     items = items_more (turns_had old.admin) (turns_had new.admin) _ told.turn
+
+    turn_added : turn.added ≡ option_map event_of (item_if (is_done said) (acknowledgement {Call = Call} {Reply = Reply} forced (number_of (phase_of told.before))))
+    unfolding turn
+    turn_added = refl
+
+    counted_older : (f : Bool) → forced ≡ f → is_pending (phase_of (seen_by old.admin)) ≡ true → told.looked ≡ older_counted f (seen new).shown
+    counted_older false is pending = looked_some (counts_passes (is_pending (phase_of told.before)) false) told.older told.looked old.admin new.admin (ap is_pending same_phase ∙ pending)
+        (subst (λ (f : Bool). HasCounted (counts_passes (is_pending (phase_of told.before)) f) told.older told.looked old.admin new.admin) is told.counted)
+        ∙ ap (λ (n : ℕ). Some n) older_is
+    counted_older true is pending = none_looked told.older told.looked (is_pending (phase_of told.before)) old.admin new.admin
+        (subst (λ (f : Bool). HasCounted (counts_passes (is_pending (phase_of told.before)) f) told.older told.looked old.admin new.admin) is told.counted)
+
+    tried_turn : is_pending (phase_of (seen_by old.admin)) ≡ true → IsShownTry (seen new).shown (acknowledging_item forced (phase_of (seen_by old.admin)) (is_done said)) (older_counted forced (seen new).shown) turn
+    unfolding turn
+    tried_turn pending = record {
+      added_is = acknowledging_event Call Reply forced (is_done said) (phase_of told.before) ∙ ap (λ (p : Phase). acknowledging_item forced p (is_done said)) same_phase;
+      older_is = counted_older forced refl pending;
+      found_is = sym (ap (λ (s : Showing). s.found) shown);
+      left_is = sym (ap (λ (s : Showing). s.left) shown);
+    }
 
     tried_seen : (pending : Bool) → is_pending (phase_of (seen_by old.admin)) ≡ pending → IsTriedWhere pending forced (seen old) (seen new) (is_done said)
     tried_seen false is =
         let none = idle_answer (phase_of told.before) old.site.fixed.opening.manager told.older (stale_found new.admin) said told.answer_is (ap is_pending same_phase ∙ is) in record {
           untried = untried old new _ told.turn;
-          items = inr (items ∙ ap (λ (b : Bool). Some (map event_in (turns_had old.admin) ++ option_map event_of (item_if b (acknowledgement {Call = Call} {Reply = Reply} forced (number_of (phase_of told.before)))) ∷ [])) none);
+          items = inr (turn, turn_added ∙ ap (λ (b : Bool). option_map event_of (item_if b (acknowledgement {Call = Call} {Reply = Reply} forced (number_of (phase_of told.before))))) none, items);
         }
     tried_seen true is = record {
       tries = tried (turns_had old.admin) (turns_had new.admin) _ told.turn;
       older_shown = shows forced refl;
       found_shown = tt;
       left_shown = ap (λ (s : Showing). s.left) shown ∙ (told.left ∙ sym (ap (λ (s : Showing). s.found) shown));
-      items = items ∙ ap (λ (e : Option Event). Some (map event_in (turns_had old.admin) ++ e ∷ [])) (acknowledging_event Call Reply forced (is_done said) (phase_of told.before) ∙ ap (λ (p : Phase). acknowledging_item forced p (is_done said)) same_phase);
+      items = (turn, tried_turn is, items);
     }
 
     follows_none : (b : Bool) → None ≡ settled_follows (phase_of (seen_by old.admin)) b None

@@ -3,8 +3,7 @@ use Rattle.std.specs.Prelude.{◌≡◌, ℕ, ◌-◌, ◌^◌, min, List, [], m
 use Rattle.std.specs.List.{fold}
 use Rattle.access_vectors.specs.Decisions.{Decisions}
 use Rattle.manager_history.specs.declared.entry.Entry.{Entry}
-use Rattle.managed.specs.Seen.{Seen, event_of}
-use Rattle.managed.specs.declared.managed.Event.{Event}
+use Rattle.managed.specs.Seen.{Seen, Turn, event_of}
 use Rattle.managed.specs.declared.managed.Shown.{Shown as Showing}
 use Rattle.gate_rule.specs.declared.view.Item.{Item}
 use Rattle.epoch_gate.specs.Seats.{Shown, Site, IsOfGate}
@@ -45,9 +44,9 @@ pub record IsHolding {Core D Call Reply : Type 0} (held : Holding Core D Call Re
   pub idle : IsIdle held.admin
   pub clear : seats_made held.admin ≡ 0 → All IsClear (turns_had held.admin)
 
--- the entry of a turn, as the administrator of a change sees it
-abbrev pub event_in : {Call Reply : Type 0} → Item (Entry Call Reply) → Option Event
-event_in item = option_map event_of item.entry
+-- a turn, as the administrator of a change sees it
+abbrev pub turn_of : {Call Reply : Type 0} → Item (Entry Call Reply) → Turn
+turn_of item = record { added = option_map event_of item.entry; older = item.looked; found = item.found; left = item.left }
 
 -- what is seen of it: the history that the administrator has seen, its phase, the turns as items and their number as tries, and
 -- what the last turn showed. Older passes, what slots follow and the stale slots are not told.
@@ -63,7 +62,7 @@ seen_of decides held = record {
   older = None;
   follows = None;
   stale = None;
-  items = Some (map event_in (turns_had held.admin));
+  items = Some (map turn_of (turns_had held.admin));
 }
 
 -- one and the same station, and the seats that the administrator made and retired

@@ -21,6 +21,28 @@ fn add<K: Drop, R: Drop>(entries: &mut Vec<Entry<K, R>>, entry: Entry<K, R>)
     let _ = entries.push(entry);
 }
 
+/// Adds that a caller's call under a policy number was aborted, for which there is room.
+fn add_aborted<K: Drop, R: Drop>(
+    entries: &mut Vec<Entry<K, R>>,
+    caller: u8,
+    mark: u32,
+    call: K,
+    number: u32,
+)
+    requires { vec_len entries.old < vec_capacity entries.old }
+    ensures added { entries.new.items ≡ entries.old.items ++ Entry.Aborted caller mark call number ∷ [] }
+    ensures len { vec_len entries.new ≡ vec_len entries.old + 1 }
+    ensures room { vec_capacity entries.old ≤ vec_capacity entries.new }
+{
+    let entry = Entry::Aborted {
+        caller,
+        mark,
+        call,
+        number,
+    };
+    add(entries, entry);
+}
+
 /// A core with its history. Contracts see the core, the decider, the manager's number, the phase and the history,
 /// oldest entry first. The type keeps that the history is lawful from the core's opening under the decider, that the
 /// core's state and the phase are the replay of it, and that while a change is pending the place of its
@@ -136,15 +158,7 @@ impl<'d, C: Core, D: Decider> Keeper<'d, C, D> {
         let aborted = self.aborts(number);
         self.entries.reserve(2)?;
         if aborted {
-            add(
-                &mut self.entries,
-                Entry::Aborted {
-                    caller,
-                    mark,
-                    call,
-                    number,
-                },
-            );
+            add_aborted(&mut self.entries, caller, mark, call, number);
             return Ok(Answer::Aborted);
         }
         let mut asked = Questions::new(alloc);

@@ -155,3 +155,48 @@ module _ {Reply : Type 0} (denied : Permission → ℕ → Reply) (denial_of : R
     pub honest_if : (r : Request) (test : Bool) (one other : Answer Reply State) → Honest r one → Honest r other → Honest r (if test then one else other)
     honest_if r true one other first second = first
     honest_if r false one other first second = second
+
+    -- and where a part of the state is to stay
+    module _ {Part : Type 0} (part : State → Part) where
+      -- an answer in a state is honest, and leaves that part of it
+      abbrev pub Sound : Request → State → Answer Reply State → Type 0
+      Sound r state given = Honest r given × (part given.state ≡ part state)
+
+      -- a reply that asks nothing more, after which the part is as before
+      pub sound_saying : (r : Request) (state after : State) (said : Reply) → denial_of said ≡ None → part after ≡ part state → Sound r state (saying after said)
+      sound_saying r state after said none kept = (honest_saying r after said none, kept)
+
+      -- these questions before, and what stopped the call, or else the rest
+      pub sound_stopped : (r : Request) (state : State) (stop : Option Reply) (asked : List Asked) (rest : Answer Reply State) → IsHonestStop r stop asked
+          → Sound r state rest → Sound r state (stopped_or state asked rest stop)
+      sound_stopped r state (Some said) asked rest is sound = (honest_stopped r state (Some said) asked rest is sound.0, refl)
+      sound_stopped r state None asked rest is sound = (honest_stopped r state None asked rest is sound.0, sound.1)
+
+      -- a question first
+      pub sound_asking : (r : Request) (state : State) (t : ℕ) (perm : Permission) (rest : Answer Reply State) → Sound r state rest
+          → Sound r state (asking denied r state t perm rest)
+      sound_asking r state t perm rest sound = (honest_asking r state t perm rest sound.0, keeps_asking)
+        where
+          keeps_asking : part (asking denied r state t perm rest).state ≡ part state
+          keeps_asking =
+              let q = question_of r t perm in
+              elim q.yes as (λ (b : Bool).
+              let given : Answer Reply State =
+              if b then record { reply = rest.reply; state = rest.state; asked = q ∷ rest.asked } else record { reply = denied perm r.number; state = state; asked = q ∷ [] } in
+              part given.state ≡ part state) [
+                | true ↦ sound.1
+                | false ↦ refl
+              ]
+
+      -- the permissions of a mode first
+      pub sound_after_asking : (r : Request) (state : State) (t mode : ℕ) (perms : List Permission) (rest : Answer Reply State) → Sound r state rest
+          → Sound r state (after_asking denied r state (asking_mode r t mode perms) rest)
+      sound_after_asking r state t mode perms rest sound =
+          let asking = asking_mode r t mode perms in
+          sound_stopped r state (denied_with denied r.number asking.denied) asking.asked rest (honest_mode r t mode perms) sound
+
+      -- one of two rests
+      pub sound_if : (r : Request) (state : State) (test : Bool) (one other : Answer Reply State) → Sound r state one → Sound r state other
+          → Sound r state (if test then one else other)
+      sound_if r state true one other first second = first
+      sound_if r state false one other first second = second

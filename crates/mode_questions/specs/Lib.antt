@@ -1,5 +1,4 @@
 pub mod Covered
 pub mod Requests
 pub mod Honesty
-pub mod Keeping
 pub mod Operations

@@ -3,5 +3,4 @@ pub mod States
 pub mod Rows
 pub mod Plain
 pub mod Honest
-pub mod Keeping
 pub mod Example

@@ -55,8 +55,7 @@ pub fn new<F: Callback>(alloc: Global, opening: PortOpening, callback: F) -> Por
 
 impl<F: Callback> Core for PortCore<F> {
     ghost use Rattle.access_vectors.specs.declared.class.Class.TheVariants as class_names;
-    ghost use Rattle.port_calls.specs.Honest.{honest_answer};
-    ghost use Rattle.port_calls.specs.Keeping.{formed_stays};
+    ghost use Rattle.port_calls.specs.Honest.{honest_answer, formed_stays};
     ghost use Rattle.port_calls.specs.Plain as plainly;
     ghost use Rattle.port_calls.specs.Plain.{IsFormed};
     ghost use Rattle.port_calls.specs.States.{PortState, opened_with};

@@ -58,8 +58,7 @@ pub fn new<F: Callback + Drop>(
 
 impl<F: Callback> Core for ProcessCore<F> {
     ghost use Rattle.access_vectors.specs.declared.class.Class.TheVariants as class_of;
-    ghost use Rattle.process_calls.specs.Honest.{honest_answer};
-    ghost use Rattle.process_calls.specs.Keeping.{formed_stays};
+    ghost use Rattle.process_calls.specs.Honest.{honest_answer, formed_stays};
     ghost use Rattle.process_calls.specs.Plain as plainly;
     ghost use Rattle.process_calls.specs.Plain.{IsFormed};
     ghost use Rattle.process_calls.specs.States.{ProcessState, opened_with};

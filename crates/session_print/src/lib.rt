@@ -10,3 +10,4 @@ mod setup;
 mod words;
 
 pub use session::print;
+pub use words::{client_name, put_manager};

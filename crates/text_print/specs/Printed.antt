@@ -1,6 +1,7 @@
 -- Printed texts: a text is a list of lines, and a line is a list of words.
-use Rattle.std.specs.Prelude.{ℕ, Bool, ◌&&◌, List, [], ◌∷◌, ◌++◌}
+use Rattle.std.specs.Prelude.{ℕ, ◌-◌, Bool, ◌&&◌, List, [], ◌∷◌, ◌++◌, slice_index_or}
 use Rattle.std.specs.List.{list_all, flat_map}
+use Rattle.flask_sid.specs.declared.context.ContextOf.{ContextOf}
 use Rattle.text_lines.specs.Lines.{is_word_byte, is_filled}
 
 -- a word: one or more bytes that words are made of
@@ -23,3 +24,7 @@ ended words = spaced words ++ 10 ∷ []
 -- the text of lines of words
 abbrev pub text_of : List (List (List ℕ)) → List ℕ
 text_of lines = flat_map ended lines
+
+-- the context of an identifier, by its place from 1; a number that is none has empty names
+abbrev pub context_with : List (ContextOf (List ℕ)) → ℕ → ContextOf (List ℕ)
+context_with contexts sid = slice_index_or contexts (sid - 1) (record { user = []; role = []; kind = [] })

@@ -8,7 +8,7 @@ ghost use Rattle.std.specs.Prelude.{◌≡◌, ◌++◌, OnOk, decimal};
 ghost use Rattle.flask_sid.specs.Contexts.{context_text};
 ghost use Rattle.text_print.specs.Printed;
 
-use flask_sid::{Context, Memory, Piece};
+use flask_sid::{Context, Memory, Piece, Sid, SidTable};
 use text_lines::put_number;
 
 /// Puts a word behind a space.
@@ -38,4 +38,15 @@ pub fn put_context(out: &mut Piece, context: &Context) -> Result<(), Memory>
     out.extend(context.role.as_bytes())?;
     out.push(b':')?;
     out.extend(context.kind.as_bytes())
+}
+
+/// Puts the context of an identifier behind a space. A number that is none has a context of empty names.
+#[tactic(auto, unfolding(flask_sid::specs::Contexts::context_text))]
+pub fn put_label(out: &mut Piece, sids: &SidTable, sid: Sid) -> Result<(), Memory>
+    ensures { OnOk result (out.new ≡ out.old ++ Printed.behind (context_text (Printed.context_with sids.now sid))) }
+{
+    match sids.context(sid) {
+        None => put_word(out, b"::"),
+        Some(context) => put_context(out, context),
+    }
 }

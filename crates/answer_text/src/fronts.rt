@@ -1,0 +1,31 @@
+//! What stands in front of a reply: the line of the call, the client, the manager and the policy number.
+
+ghost use Rattle.std.specs.Prelude.{◌≡◌, ◌++◌, OnOk};
+ghost use Rattle.text_print.specs.Printed.{spaced};
+ghost use Rattle.answer_text.specs.Fronts;
+
+use flask_sid::{Memory, Piece};
+use session_forms::Manager;
+use session_print::{client_name, put_manager};
+use session_text::ClientLine;
+use text_lines::put_number;
+use text_print::{put_numeral, put_word};
+
+/// Which call it was: the number of its line, the client, the manager, and the policy number.
+#[derive(Clone, Copy, Debug, PartialEq, Eq)]
+pub struct Front {
+    pub line: u32,
+    pub client: u8,
+    pub manager: Manager,
+    pub number: u32,
+}
+
+/// Puts the words in front of a reply, with one space between them.
+pub fn put_front(out: &mut Piece, clients: &[ClientLine], front: Front) -> Result<(), Memory>
+    ensures { OnOk result (out.new ≡ out.old ++ spaced (Fronts.front_words clients.now front)) }
+{
+    put_number(out, u64::from(front.line))?;
+    put_word(out, client_name(clients, front.client))?;
+    put_manager(out, front.manager)?;
+    put_numeral(out, u64::from(front.number))
+}
