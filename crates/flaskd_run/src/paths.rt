@@ -48,7 +48,15 @@ pub fn find(
     let Some(to) = node_named(policy, catalogue.sids(), &asked.to) else {
         return Ok(PathAnswer::NoType(asked.to.copy(alloc)?));
     };
-    match shortest(alloc, policy, catalogue, asked.version as u8, from, to, kind)? {
+    match shortest(
+        alloc,
+        policy,
+        catalogue,
+        asked.version as u8,
+        from,
+        to,
+        kind,
+    )? {
         None => Ok(PathAnswer::NoPath),
         Some(path) => Ok(PathAnswer::Found(path)),
     }

@@ -86,12 +86,7 @@ fn made(alloc: Global, seed: u32, clients: u8, lines: u32) -> Result<Task, TextF
 }
 
 /// The search for a path in the policy that the bytes are.
-fn path_task(
-    alloc: Global,
-    bytes: &[u8],
-    kind: Kind,
-    asked: PathAsked,
-) -> Result<Task, TextFault>
+fn path_task(alloc: Global, bytes: &[u8], kind: Kind, asked: PathAsked) -> Result<Task, TextFault>
     ensures { GivesText result (policy_of bytes.now >>= λ policy. Ok (task.Path policy kind asked)) }
 {
     match policy_text::read(alloc, bytes) {
