@@ -7,11 +7,13 @@ use Rattle.text_lines.specs.ResultSteps.{◌>>=◌, LineFault}
 use Rattle.policy_model.specs.declared.policy.PolicyParts.{PolicyParts}
 use Rattle.policy_text.specs.Grammar.{policy_of}
 use Rattle.policy_versions.specs.Judging.{decisions_of}
+use Rattle.flow_query.specs.declared.route.Kind.{Kind}
 use Rattle.flow_query.specs.declared.route.Kind.TheVariants as kind
 use Rattle.session_text.specs.Reading.{session_of}
 use Rattle.session_generator.specs.Generated.{generated}
 use Rattle.command_line.specs.declared.command.Command.{Command}
 use Rattle.command_line.specs.declared.command.Command.TheVariants as command
+use Rattle.command_line.specs.declared.command.PathAsked.{PathAsked}
 use Rattle.flaskd_run.specs.Writing.{AddsFront}
 use Rattle.flaskd_run.specs.Serial.{text_on, summary_on}
 use Rattle.flaskd_run.specs.Paths.{IsPathText}
@@ -25,13 +27,17 @@ abbrev pub reads_input : Command → Bool
 reads_input (command.Generate seed clients lines) = false
 reads_input other = true
 
+-- the search for a path in the policy that the bytes are, or their first faulty line
+abbrev pub path_task : Kind → PathAsked → List ℕ → Result Task LineFault
+path_task sought asked bytes = policy_of bytes >>= λ policy. Ok (task.Path policy sought asked)
+
 -- what a command is to do with these bytes, or their first faulty line: `serial` reads a session, `generate` makes one of its numbers,
 -- and `flow` and `enter` read a policy alone
 abbrev pub task_of : Command → List ℕ → Result Task LineFault
 task_of command.Serial bytes = session_of bytes >>= λ session. Ok (task.Serial session)
 task_of (command.Generate seed clients lines) bytes = Ok (task.Summary (generated seed clients lines))
-task_of (command.Flow asked) bytes = policy_of bytes >>= λ policy. Ok (task.Path policy kind.Flow asked)
-task_of (command.Enter asked) bytes = policy_of bytes >>= λ policy. Ok (task.Path policy kind.Enter asked)
+task_of (command.Flow asked) bytes = path_task kind.Flow asked bytes
+task_of (command.Enter asked) bytes = path_task kind.Enter asked bytes
 
 -- the policy of a task
 abbrev pub policy_in : Task → PolicyParts

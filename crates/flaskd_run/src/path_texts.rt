@@ -1,6 +1,6 @@
 //! What `flow` and `enter` print, line by line.
 
-ghost use Rattle.std.specs.Prelude.{◌≡◌, ◌++◌, Err, OnOk, OnErr, codes};
+ghost use Rattle.std.specs.Prelude.{◌≡◌, ◌++◌, Err, OnOk, OnErr, codes, decimal};
 ghost use Rattle.std.specs.List.{flat_map};
 ghost use Rattle.flask_io.specs.Streams.{Adds, HasCause};
 ghost use Rattle.policy_versions.specs.Places.{kind_at};

@@ -4,9 +4,7 @@ ghost use Rattle.std.specs.Prelude.{◌≡◌};
 ghost use Rattle.command_line.specs.Commands.{IsRanged, IsWithin};
 ghost use Rattle.session_generator.specs.Generated.{generated as generated_of};
 ghost use Rattle.std.specs.Prelude.{Ok};
-ghost use Rattle.text_lines.specs.ResultSteps.{◌>>=◌};
 ghost use Rattle.text_lines.specs.Refusals.{GivesText};
-ghost use Rattle.policy_text.specs.Grammar.{policy_of};
 ghost use Rattle.flaskd_run.specs.Tasks;
 ghost use Rattle.flaskd_run.specs.declared.task.Task.TheVariants as task;
 
@@ -87,7 +85,7 @@ fn made(alloc: Global, seed: u32, clients: u8, lines: u32) -> Result<Task, TextF
 
 /// The search for a path in the policy that the bytes are.
 fn path_task(alloc: Global, bytes: &[u8], kind: Kind, asked: PathAsked) -> Result<Task, TextFault>
-    ensures { GivesText result (policy_of bytes.now >>= λ policy. Ok (task.Path policy kind asked)) }
+    ensures { GivesText result (Tasks.path_task kind asked bytes.now) }
 {
     match policy_text::read(alloc, bytes) {
         Ok(policy) => Ok(Task::Path {
