@@ -74,45 +74,45 @@ holding rows id word = record { rows = rows; pending = Some (id, word ∷ []); s
 abbrev pub first : List ℕ → Held
 first name = holding [] (codes "command") name
 
-abbrev pub second : (name seed : List ℕ) → Held
-second name seed = holding (row (codes "command") name ∷ []) (codes "seed") seed
+abbrev pub second : (name one : List ℕ) → Held
+second name one = holding (row (codes "command") name ∷ []) (codes "one") one
 
-abbrev pub third : (name seed clients : List ℕ) → Held
-third name seed clients = holding (row (codes "command") name ∷ row (codes "seed") seed ∷ []) (codes "clients") clients
+abbrev pub third : (name one two : List ℕ) → Held
+third name one two = holding (row (codes "command") name ∷ row (codes "one") one ∷ []) (codes "two") two
 
-abbrev pub fourth : (name seed clients lines : List ℕ) → Held
-fourth name seed clients lines =
-    holding (row (codes "command") name ∷ row (codes "seed") seed ∷ row (codes "clients") clients ∷ []) (codes "lines") lines
+abbrev pub fourth : (name one two three : List ℕ) → Held
+fourth name one two three =
+    holding (row (codes "command") name ∷ row (codes "one") one ∷ row (codes "two") two ∷ []) (codes "three") three
 
 -- each word goes to the next place
 pub walked_first : (name : List ℕ) → begins_with_dash name ≡ false → walked shape.rules [] (at nothing_held 1) name ≡ at (first name) 2
 walked_first name plain = word_walked name plain shape.rules 1 nothing_held
 
-pub walked_second : (name seed : List ℕ) → begins_with_dash seed ≡ false
-    → walked shape.rules [] (at (first name) 2) seed ≡ at (second name seed) 3
-walked_second name seed plain = word_walked seed plain shape.rules 2 (first name)
+pub walked_second : (name one : List ℕ) → begins_with_dash one ≡ false
+    → walked shape.rules [] (at (first name) 2) one ≡ at (second name one) 3
+walked_second name one plain = word_walked one plain shape.rules 2 (first name)
 
-pub walked_third : (name seed clients : List ℕ) → begins_with_dash clients ≡ false
-    → walked shape.rules [] (at (second name seed) 3) clients ≡ at (third name seed clients) 4
-walked_third name seed clients plain = word_walked clients plain shape.rules 3 (second name seed)
+pub walked_third : (name one two : List ℕ) → begins_with_dash two ≡ false
+    → walked shape.rules [] (at (second name one) 3) two ≡ at (third name one two) 4
+walked_third name one two plain = word_walked two plain shape.rules 3 (second name one)
 
-pub walked_fourth : (name seed clients lines : List ℕ) → begins_with_dash lines ≡ false
-    → walked shape.rules [] (at (third name seed clients) 4) lines ≡ at (fourth name seed clients lines) 5
-walked_fourth name seed clients lines plain = word_walked lines plain shape.rules 4 (third name seed clients)
+pub walked_fourth : (name one two three : List ℕ) → begins_with_dash three ≡ false
+    → walked shape.rules [] (at (third name one two) 4) three ≡ at (fourth name one two three) 5
+walked_fourth name one two three plain = word_walked three plain shape.rules 4 (third name one two)
 
 -- the walk over up to four words
 pub walk_one : (name : List ℕ) → begins_with_dash name ≡ false → walk shape.rules [] nothing_held (name ∷ []) ≡ at (first name) 2
 walk_one name n = walked_first name n
 
-pub walk_two : (name seed : List ℕ) → begins_with_dash name ≡ false → begins_with_dash seed ≡ false
-    → walk shape.rules [] nothing_held (name ∷ seed ∷ []) ≡ at (second name seed) 3
-walk_two name seed n s = ap (λ w. walked shape.rules [] w seed) (walk_one name n) ∙ walked_second name seed s
+pub walk_two : (name one : List ℕ) → begins_with_dash name ≡ false → begins_with_dash one ≡ false
+    → walk shape.rules [] nothing_held (name ∷ one ∷ []) ≡ at (second name one) 3
+walk_two name one n s = ap (λ w. walked shape.rules [] w one) (walk_one name n) ∙ walked_second name one s
 
-pub walk_three : (name seed clients : List ℕ) → begins_with_dash name ≡ false → begins_with_dash seed ≡ false → begins_with_dash clients ≡ false
-    → walk shape.rules [] nothing_held (name ∷ seed ∷ clients ∷ []) ≡ at (third name seed clients) 4
-walk_three name seed clients n s c = ap (λ w. walked shape.rules [] w clients) (walk_two name seed n s) ∙ walked_third name seed clients c
+pub walk_three : (name one two : List ℕ) → begins_with_dash name ≡ false → begins_with_dash one ≡ false → begins_with_dash two ≡ false
+    → walk shape.rules [] nothing_held (name ∷ one ∷ two ∷ []) ≡ at (third name one two) 4
+walk_three name one two n s c = ap (λ w. walked shape.rules [] w two) (walk_two name one n s) ∙ walked_third name one two c
 
-pub walk_four : (name seed clients lines : List ℕ) → begins_with_dash name ≡ false → begins_with_dash seed ≡ false → begins_with_dash clients ≡ false
-    → begins_with_dash lines ≡ false → walk shape.rules [] nothing_held (name ∷ seed ∷ clients ∷ lines ∷ []) ≡ at (fourth name seed clients lines) 5
-walk_four name seed clients lines n s c l =
-    ap (λ w. walked shape.rules [] w lines) (walk_three name seed clients n s c) ∙ walked_fourth name seed clients lines l
+pub walk_four : (name one two three : List ℕ) → begins_with_dash name ≡ false → begins_with_dash one ≡ false → begins_with_dash two ≡ false
+    → begins_with_dash three ≡ false → walk shape.rules [] nothing_held (name ∷ one ∷ two ∷ three ∷ []) ≡ at (fourth name one two three) 5
+walk_four name one two three n s c l =
+    ap (λ w. walked shape.rules [] w three) (walk_three name one two n s c) ∙ walked_fourth name one two three l

@@ -61,35 +61,35 @@ module _ (name : List ℕ) (n : begins_with_dash name ≡ false) where
   unfolding defaults_fault walk_fault
   one_passes = ap₂ end_fault (walk_one name n) (one_on [])
 
-  module _ (seed : List ℕ) (s : begins_with_dash seed ≡ false) where
-    two_on : (rest : List (List ℕ)) → walk_fault shape [] (at nothing_held 1) (name ∷ seed ∷ rest) ≡ walk_fault shape [] (at (second name seed) 3) rest
-    two_on rest = one_on (seed ∷ rest)
-        ∙ word_passes (first name) 2 (at (second name seed) 3) seed rest (word_turn seed s shape 2 (first name)) (walked_second name seed s)
+  module _ (one : List ℕ) (s : begins_with_dash one ≡ false) where
+    two_on : (rest : List (List ℕ)) → walk_fault shape [] (at nothing_held 1) (name ∷ one ∷ rest) ≡ walk_fault shape [] (at (second name one) 3) rest
+    two_on rest = one_on (one ∷ rest)
+        ∙ word_passes (first name) 2 (at (second name one) 3) one rest (word_turn one s shape 2 (first name)) (walked_second name one s)
 
-    module _ (clients : List ℕ) (c : begins_with_dash clients ≡ false) where
-      three_on : (rest : List (List ℕ)) → walk_fault shape [] (at nothing_held 1) (name ∷ seed ∷ clients ∷ rest)
-          ≡ walk_fault shape [] (at (third name seed clients) 4) rest
-      three_on rest = two_on (clients ∷ rest)
-          ∙ word_passes (second name seed) 3 (at (third name seed clients) 4) clients rest (word_turn clients c shape 3 (second name seed))
-          (walked_third name seed clients c)
+    module _ (two : List ℕ) (c : begins_with_dash two ≡ false) where
+      three_on : (rest : List (List ℕ)) → walk_fault shape [] (at nothing_held 1) (name ∷ one ∷ two ∷ rest)
+          ≡ walk_fault shape [] (at (third name one two) 4) rest
+      three_on rest = two_on (two ∷ rest)
+          ∙ word_passes (second name one) 3 (at (third name one two) 4) two rest (word_turn two c shape 3 (second name one))
+          (walked_third name one two c)
 
-      module _ (lines : List ℕ) (l : begins_with_dash lines ≡ false) where
-        four_on : (rest : List (List ℕ)) → walk_fault shape [] (at nothing_held 1) (name ∷ seed ∷ clients ∷ lines ∷ rest)
-            ≡ walk_fault shape [] (at (fourth name seed clients lines) 5) rest
-        four_on rest = three_on (lines ∷ rest)
-            ∙ word_passes (third name seed clients) 4 (at (fourth name seed clients lines) 5) lines rest
-            (word_turn lines l shape 4 (third name seed clients)) (walked_fourth name seed clients lines l)
+      module _ (three : List ℕ) (l : begins_with_dash three ≡ false) where
+        four_on : (rest : List (List ℕ)) → walk_fault shape [] (at nothing_held 1) (name ∷ one ∷ two ∷ three ∷ rest)
+            ≡ walk_fault shape [] (at (fourth name one two three) 5) rest
+        four_on rest = three_on (three ∷ rest)
+            ∙ word_passes (third name one two) 4 (at (fourth name one two three) 5) three rest
+            (word_turn three l shape 4 (third name one two)) (walked_fourth name one two three l)
 
-        pub four_pass : fault_of program (name ∷ seed ∷ clients ∷ lines ∷ []) ≡ []
+        pub four_pass : fault_of program (name ∷ one ∷ two ∷ three ∷ []) ≡ []
         unfolding defaults_fault walk_fault
-        four_pass = ap₂ end_fault (walk_four name seed clients lines n s c l) (four_on [])
+        four_pass = ap₂ end_fault (walk_four name one two three n s c l) (four_on [])
 
         pub five_fail : (more : List ℕ) (rest : List (List ℕ)) → begins_with_dash more ≡ false
-            → fault_of program (name ∷ seed ∷ clients ∷ lines ∷ more ∷ rest) ≡ kind.UnknownArgument ∷ []
+            → fault_of program (name ∷ one ∷ two ∷ three ∷ more ∷ rest) ≡ kind.UnknownArgument ∷ []
         five_fail more rest m =
-            let words : List (List ℕ) = name ∷ seed ∷ clients ∷ lines ∷ more ∷ rest in
+            let words : List (List ℕ) = name ∷ one ∷ two ∷ three ∷ more ∷ rest in
             ap (end_fault (walk shape.rules [] nothing_held words)) (four_on (more ∷ rest)
-            ∙ word_fails (fourth name seed clients lines) 5 more rest (word_turn more m shape 5 (fourth name seed clients lines)))
+            ∙ word_fails (fourth name one two three) 5 more rest (word_turn more m shape 5 (fourth name one two three)))
 
 pub none_fails : fault_of program [] ≡ kind.MissingRequiredArgument ∷ []
 unfolding clap_on_literals
@@ -99,7 +99,7 @@ none_fails = refl
 
 -- the command that the rows of the positionals are
 abbrev pub command_in : List Row → Option Command
-command_in rows = command_by (first_of (codes "command") rows) (first_of (codes "seed") rows) (first_of (codes "clients") rows) (first_of (codes "lines") rows)
+command_in rows = command_by (first_of (codes "command") rows) (first_of (codes "one") rows) (first_of (codes "two") rows) (first_of (codes "three") rows)
 
 -- where the walk ended, the command is that of the rows
 abbrev command_at : Walk → Option Command
@@ -109,43 +109,43 @@ one_given : (name : List ℕ) → begins_with_dash name ≡ false → command_in
 unfolding command_by command_of
 one_given name n = ap command_at (walk_one name n)
 
-two_given : (name seed : List ℕ) → begins_with_dash name ≡ false → begins_with_dash seed ≡ false
-    → command_in (matches_of program (name ∷ seed ∷ [])) ≡ command_of (name ∷ seed ∷ [])
+two_given : (name one : List ℕ) → begins_with_dash name ≡ false → begins_with_dash one ≡ false
+    → command_in (matches_of program (name ∷ one ∷ [])) ≡ command_of (name ∷ one ∷ [])
 unfolding command_by command_of
-two_given name seed n s = ap command_at (walk_two name seed n s)
+two_given name one n s = ap command_at (walk_two name one n s)
 
-three_given : (name seed clients : List ℕ) → begins_with_dash name ≡ false → begins_with_dash seed ≡ false → begins_with_dash clients ≡ false
-    → command_in (matches_of program (name ∷ seed ∷ clients ∷ [])) ≡ command_of (name ∷ seed ∷ clients ∷ [])
+three_given : (name one two : List ℕ) → begins_with_dash name ≡ false → begins_with_dash one ≡ false → begins_with_dash two ≡ false
+    → command_in (matches_of program (name ∷ one ∷ two ∷ [])) ≡ command_of (name ∷ one ∷ two ∷ [])
 unfolding command_by command_of
-three_given name seed clients n s c = ap command_at (walk_three name seed clients n s c)
+three_given name one two n s c = ap command_at (walk_three name one two n s c)
 
-four_given : (name seed clients lines : List ℕ) → begins_with_dash name ≡ false → begins_with_dash seed ≡ false → begins_with_dash clients ≡ false
-    → begins_with_dash lines ≡ false → command_in (matches_of program (name ∷ seed ∷ clients ∷ lines ∷ [])) ≡ command_of (name ∷ seed ∷ clients ∷ lines ∷ [])
+four_given : (name one two three : List ℕ) → begins_with_dash name ≡ false → begins_with_dash one ≡ false → begins_with_dash two ≡ false
+    → begins_with_dash three ≡ false → command_in (matches_of program (name ∷ one ∷ two ∷ three ∷ [])) ≡ command_of (name ∷ one ∷ two ∷ three ∷ [])
 unfolding command_by command_of
-four_given name seed clients lines n s c l = ap command_at (walk_four name seed clients lines n s c l)
+four_given name one two three n s c l = ap command_at (walk_four name one two three n s c l)
 
 -- where the parse has no fault, what it gives back is the command of the words
 pub given : (words : List (List ℕ)) → list_all is_argument words ≡ true → fault_of program words ≡ [] → command_in (matches_of program words) ≡ command_of words
 given [] told passes = absurd (some_kind _ (sym none_fails ∙ passes))
 given (name ∷ []) told passes = one_given name (plain_of name (both _ _ told).0)
-given (name ∷ seed ∷ []) told passes =
+given (name ∷ one ∷ []) told passes =
     let t = both _ _ told in
-    two_given name seed (plain_of name t.0) (plain_of seed (both _ _ t.1).0)
-given (name ∷ seed ∷ clients ∷ []) told passes =
+    two_given name one (plain_of name t.0) (plain_of one (both _ _ t.1).0)
+given (name ∷ one ∷ two ∷ []) told passes =
     let t = both _ _ told in
     let u = both _ _ t.1 in
-    three_given name seed clients (plain_of name t.0) (plain_of seed u.0) (plain_of clients (both _ _ u.1).0)
-given (name ∷ seed ∷ clients ∷ lines ∷ []) told passes =
+    three_given name one two (plain_of name t.0) (plain_of one u.0) (plain_of two (both _ _ u.1).0)
+given (name ∷ one ∷ two ∷ three ∷ []) told passes =
     let t = both _ _ told in
     let u = both _ _ t.1 in
     let v = both _ _ u.1 in
-    four_given name seed clients lines (plain_of name t.0) (plain_of seed u.0) (plain_of clients v.0) (plain_of lines (both _ _ v.1).0)
-given (name ∷ seed ∷ clients ∷ lines ∷ more ∷ rest) told passes =
+    four_given name one two three (plain_of name t.0) (plain_of one u.0) (plain_of two v.0) (plain_of three (both _ _ v.1).0)
+given (name ∷ one ∷ two ∷ three ∷ more ∷ rest) told passes =
     let t = both _ _ told in
     let u = both _ _ t.1 in
     let v = both _ _ u.1 in
     let w = both _ _ v.1 in
-    absurd (some_kind _ (sym (five_fail name (plain_of name t.0) seed (plain_of seed u.0) clients (plain_of clients v.0) lines (plain_of lines w.0)
+    absurd (some_kind _ (sym (five_fail name (plain_of name t.0) one (plain_of one u.0) two (plain_of two v.0) three (plain_of three w.0)
     more rest (plain_of more (both _ _ w.1).0)) ∙ passes))
 
 -- words with a fault are no command
@@ -153,15 +153,15 @@ pub refused : (words : List (List ℕ)) → list_all is_argument words ≡ true 
 unfolding command_of
 refused [] told found among = refl
 refused (name ∷ []) told found among = absurd (subst (IsAmong found) (one_passes name (plain_of name (both _ _ told).0)) among)
-refused (name ∷ seed ∷ []) told found among = refl
-refused (name ∷ seed ∷ clients ∷ []) told found among = refl
-refused (name ∷ seed ∷ clients ∷ lines ∷ []) told found among =
+refused (name ∷ one ∷ []) told found among = refl
+refused (name ∷ one ∷ two ∷ []) told found among = refl
+refused (name ∷ one ∷ two ∷ three ∷ []) told found among =
     let t = both _ _ told in
     let u = both _ _ t.1 in
     let v = both _ _ u.1 in
-    absurd (subst (IsAmong found) (four_pass name (plain_of name t.0) seed (plain_of seed u.0) clients (plain_of clients v.0)
-    lines (plain_of lines (both _ _ v.1).0)) among)
-refused (name ∷ seed ∷ clients ∷ lines ∷ more ∷ rest) told found among = refl
+    absurd (subst (IsAmong found) (four_pass name (plain_of name t.0) one (plain_of one u.0) two (plain_of two v.0)
+    three (plain_of three (both _ _ v.1).0)) among)
+refused (name ∷ one ∷ two ∷ three ∷ more ∷ rest) told found among = refl
 
 pub refused_by : (words : List (List ℕ)) → list_all is_argument words ≡ true → (error : Error) → HasKind (fault_of program words) error
     → (kind_of error ≡ kind.OutOfMemory → ⊥) → command_of words ≡ None
@@ -170,10 +170,10 @@ refused_by words told error (inr among) other = refused words told (kind_of erro
 
 -- the getters read the rows
 pub values_read : (found : Found) (rows : List Row) → rows_of found ≡ rows
-    → command_by (first_value found (codes "command")) (first_value found (codes "seed")) (first_value found (codes "clients")) (first_value found (codes "lines"))
+    → command_by (first_value found (codes "command")) (first_value found (codes "one")) (first_value found (codes "two")) (first_value found (codes "three"))
     ≡ command_in rows
 values_read found rows are =
-    let read : command_by (first_value found (codes "command")) (first_value found (codes "seed")) (first_value found (codes "clients")) (first_value found (codes "lines"))
-    ≡ command_in (rows_of found) = λ i. command_by (first_value-rows found (codes "command") i) (first_value-rows found (codes "seed") i)
-    (first_value-rows found (codes "clients") i) (first_value-rows found (codes "lines") i) in
+    let read : command_by (first_value found (codes "command")) (first_value found (codes "one")) (first_value found (codes "two")) (first_value found (codes "three"))
+    ≡ command_in (rows_of found) = λ i. command_by (first_value-rows found (codes "command") i) (first_value-rows found (codes "one") i)
+    (first_value-rows found (codes "two") i) (first_value-rows found (codes "three") i) in
     read ∙ ap command_in are

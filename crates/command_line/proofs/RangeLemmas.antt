@@ -1,12 +1,13 @@
 -- The numbers of a command are in their ranges.
 use Rattle.std.proofs.Common.{◌≡◌, ◌≤◌, ℕ, Bool, true, false, List, [], ◌∷◌, Option, None, Some, refl, sym, arith}
-use Rattle.std.specs.Prelude.{IfSome, ◌||◌, nat_lt, if◌then◌else◌, codes}
+use Rattle.std.specs.Prelude.{IfSome, ◌||◌, nat_lt, option_map, if◌then◌else◌, codes}
 use Rattle.std.specs.Str.{bytes_eq}
 use Rattle.std.proofs.lemmas.Bool.Decides.{nat_tests}
 use Rattle.text_lines.specs.Numerals.{numeral_of}
 use Rattle.text_lines.specs.OptionSteps.{◌>>=◌}
-use Rattle.command_line.specs.Commands.{number_within, serial_form, generate_form, command_of, IsWithin, IsRanged}
+use Rattle.command_line.specs.Commands.{number_within, serial_form, generate_form, path_form, four_form, command_of, IsRanged}
 use Rattle.command_line.specs.declared.command.Command.{Command}
+use Rattle.command_line.specs.declared.command.PathAsked.{PathAsked}
 use Rattle.command_line.specs.declared.command.Command.TheVariants as command
 
 -- what holds of what a step gives, holds of the whole
@@ -35,20 +36,37 @@ number_ranged least most word =
           ] refl
         ] refl
 
-generate_ranged : (name seed clients lines : List ℕ) → IfSome (generate_form name seed clients lines) IsRanged
+generate_ranged : (seed clients lines : List ℕ) → IfSome (generate_form seed clients lines) IsRanged
 unfolding generate_form
-generate_ranged name seed clients lines =
-    elim (bytes_eq name (codes "generate")) as (λ (named : Bool). IfSome (if named then (number_within 0 2147483647 seed >>= λ s. number_within 1 62 clients >>= λ c. number_within 1 90000 lines >>= λ n. Some (command.Generate s c n)) else None) IsRanged) [
-      | true ↦
-          by_step IsRanged (number_within 0 2147483647 seed) (λ s. number_within 1 62 clients >>= λ c. number_within 1 90000 lines >>= λ n. Some (command.Generate s c n)) (λ s seed_is.
-          by_step IsRanged (number_within 1 62 clients) (λ c. number_within 1 90000 lines >>= λ n. Some (command.Generate s c n)) (λ c clients_are.
-          by_step IsRanged (number_within 1 90000 lines) (λ n. Some (command.Generate s c n)) (λ n lines_are.
-          let one = if_found (λ number. (0 ≤ number) × (number ≤ 2147483647)) (number_within 0 2147483647 seed) s (number_ranged 0 2147483647 seed) seed_is in
-          let two = if_found (λ number. (1 ≤ number) × (number ≤ 62)) (number_within 1 62 clients) c (number_ranged 1 62 clients) clients_are in
-          let three = if_found (λ number. (1 ≤ number) × (number ≤ 90000)) (number_within 1 90000 lines) n (number_ranged 1 90000 lines) lines_are in
-          record { seed_is = one.1; some_client = two.0; few_clients = two.1; some_line = three.0; few_lines = three.1 })))
-      | false ↦ tt
-    ]
+generate_ranged seed clients lines =
+    by_step IsRanged (number_within 0 2147483647 seed) (λ s. number_within 1 62 clients >>= λ c. number_within 1 90000 lines >>= λ n. Some (command.Generate s c n)) (λ s seed_is.
+    by_step IsRanged (number_within 1 62 clients) (λ c. number_within 1 90000 lines >>= λ n. Some (command.Generate s c n)) (λ c clients_are.
+    by_step IsRanged (number_within 1 90000 lines) (λ n. Some (command.Generate s c n)) (λ n lines_are.
+    let one = if_found (λ number. (0 ≤ number) × (number ≤ 2147483647)) (number_within 0 2147483647 seed) s (number_ranged 0 2147483647 seed) seed_is in
+    let two = if_found (λ number. (1 ≤ number) × (number ≤ 62)) (number_within 1 62 clients) c (number_ranged 1 62 clients) clients_are in
+    let three = if_found (λ number. (1 ≤ number) × (number ≤ 90000)) (number_within 1 90000 lines) n (number_ranged 1 90000 lines) lines_are in
+    record { seed_is = one.1; some_client = two.0; few_clients = two.1; some_line = three.0; few_lines = three.1 })))
+
+-- what asks a path has no range
+flow_ranged : (asked : Option PathAsked) → IfSome (option_map command.Flow asked) IsRanged
+flow_ranged None = tt
+flow_ranged (Some asked) = tt
+
+enter_ranged : (asked : Option PathAsked) → IfSome (option_map command.Enter asked) IsRanged
+enter_ranged None = tt
+enter_ranged (Some asked) = tt
+
+four_ranged : (name one two three : List ℕ) → IfSome (four_form name one two three) IsRanged
+unfolding four_form
+four_ranged name one two three = by_tests (bytes_eq name (codes "generate")) (bytes_eq name (codes "flow")) (bytes_eq name (codes "enter"))
+  where
+    by_tests : (generates flows enters : Bool) → IfSome (if generates then generate_form one two three
+        else if flows then option_map command.Flow (path_form one two three)
+        else if enters then option_map command.Enter (path_form one two three) else None) IsRanged
+    by_tests true flows enters = generate_ranged one two three
+    by_tests false true enters = flow_ranged (path_form one two three)
+    by_tests false false true = enter_ranged (path_form one two three)
+    by_tests false false false = tt
 
 -- the numbers of any command
 pub command_ranged : (words : List (List ℕ)) (found : Command) → command_of words ≡ Some found → IsRanged found
@@ -60,7 +78,7 @@ command_ranged words found is = if_found IsRanged (command_of words) found (by_w
     by_words (name ∷ []) = elim (bytes_eq name (codes "serial")) as (λ (named : Bool). IfSome (if named then Some command.Serial else None) IsRanged) [ true ↦ tt | false ↦ tt ]
     by_words (name ∷ one ∷ []) = tt
     by_words (name ∷ one ∷ two ∷ []) = tt
-    by_words (name ∷ one ∷ two ∷ three ∷ []) = generate_ranged name one two three
+    by_words (name ∷ one ∷ two ∷ three ∷ []) = four_ranged name one two three
     by_words (name ∷ one ∷ two ∷ three ∷ four ∷ more) = tt
 
 -- the same of what was found, if anything

@@ -1,10 +1,12 @@
 -- The commands, as the words after the program's name ask them.
-use Rattle.std.specs.Prelude.{ℕ, ◌≤◌, ◌||◌, nat_lt, List, [], ◌∷◌, Option, Some, None, if◌then◌else◌, codes}
+use Rattle.std.specs.Prelude.{ℕ, ◌≤◌, ◌&&◌, ◌||◌, nat_lt, List, [], ◌∷◌, Option, Some, None, option_map, if◌then◌else◌, codes}
 use Rattle.std.specs.Str.{bytes_eq}
+use Rattle.flask_sid.specs.Names.{is_name}
 use Rattle.text_lines.specs.Numerals.{numeral_of}
 use Rattle.text_lines.specs.OptionSteps.{◌>>=◌}
 use Rattle.command_line.specs.declared.command.Command.{Command}
 use Rattle.command_line.specs.declared.command.Command.TheVariants as command
+use Rattle.command_line.specs.declared.command.PathAsked.{PathAsked}
 
 -- the number from least to most that a numeral is
 unfoldable pub number_within : ℕ → ℕ → List ℕ → Option ℕ
@@ -26,19 +28,32 @@ most_lines = 90000
 unfoldable pub serial_form : List ℕ → Option Command
 serial_form name = if bytes_eq name (codes "serial") then Some command.Serial else None
 
--- `generate SEED CLIENTS LINES`
-unfoldable pub generate_form : List ℕ → List ℕ → List ℕ → List ℕ → Option Command
-generate_form name seed clients lines =
-    if bytes_eq name (codes "generate") then (do
-      seed ← number_within 0 most_seed seed
-      clients ← number_within 1 most_clients clients
-      lines ← number_within 1 most_lines lines
-      Some (command.Generate seed clients lines)) else None
+-- the words behind `generate`: SEED CLIENTS LINES
+unfoldable pub generate_form : List ℕ → List ℕ → List ℕ → Option Command
+generate_form seed clients lines = do
+  seed ← number_within 0 most_seed seed
+  clients ← number_within 1 most_clients clients
+  lines ← number_within 1 most_lines lines
+  Some (command.Generate seed clients lines)
+
+-- the words behind `flow` and `enter`: VERSION FROM TO, a numeral of any value and two names
+unfoldable pub path_form : List ℕ → List ℕ → List ℕ → Option PathAsked
+path_form version from to = do
+  number ← numeral_of version
+  if is_name from && is_name to then Some (record { version = number; from = from; to = to }) else None
+
+-- a command of four words, by the first
+unfoldable pub four_form : List ℕ → List ℕ → List ℕ → List ℕ → Option Command
+four_form name one two three =
+    if bytes_eq name (codes "generate") then generate_form one two three
+    else if bytes_eq name (codes "flow") then option_map command.Flow (path_form one two three)
+    else if bytes_eq name (codes "enter") then option_map command.Enter (path_form one two three)
+    else None
 
 -- the command that words are: one word or four, and every other list is none
 unfoldable pub command_of : List (List ℕ) → Option Command
 command_of (name ∷ []) = serial_form name
-command_of (name ∷ seed ∷ clients ∷ lines ∷ []) = generate_form name seed clients lines
+command_of (name ∷ one ∷ two ∷ three ∷ []) = four_form name one two three
 command_of _ = None
 
 -- numbers of which a session is made: a seed of 31 bits, 1 to 62 clients, 1 to 90,000 lines
@@ -49,13 +64,13 @@ pub record IsWithin (seed clients lines : ℕ) : Type 0 where
   pub some_line : 1 ≤ lines
   pub few_lines : lines ≤ most_lines
 
--- a command with its numbers in their ranges
+-- a command with its numbers in their ranges; the version of `flow` and `enter` may be any
 abbrev pub IsRanged : Command → Type 0
-IsRanged command.Serial = Unit {0}
 IsRanged (command.Generate seed clients lines) = IsWithin seed clients lines
+IsRanged other = Unit {0}
 
 -- the command whose words stand in these places, the first of them alone or all four
 unfoldable pub command_by : Option (List ℕ) → Option (List ℕ) → Option (List ℕ) → Option (List ℕ) → Option Command
 command_by (Some name) None None None = serial_form name
-command_by (Some name) (Some seed) (Some clients) (Some lines) = generate_form name seed clients lines
+command_by (Some name) (Some one) (Some two) (Some three) = four_form name one two three
 command_by _ _ _ _ = None

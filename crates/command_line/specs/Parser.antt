@@ -8,4 +8,4 @@ abbrev pub program : App
 program = with_rule (with_rule (with_rule (with_rule
     (on_top (λ s. record s { no_binary_name = true; disable_help_flag = true }) (new_app (codes "flaskd")))
     (record (new_rule (codes "command")) { required = true }))
-    (new_rule (codes "seed"))) (new_rule (codes "clients"))) (new_rule (codes "lines"))
+    (new_rule (codes "one"))) (new_rule (codes "two"))) (new_rule (codes "three"))

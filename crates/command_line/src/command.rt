@@ -1,10 +1,11 @@
 //! Commands, and the ranges of their numbers.
 
-ghost use Rattle.std.specs.Prelude.{◌≡◌, ◌≤◌, IfSome};
+ghost use Rattle.std.specs.Prelude.{◌≡◌, ◌≤◌, IfOk, IfSome};
 ghost use Rattle.command_line.specs.Arguments.{told};
 ghost use Rattle.command_line.specs.Commands;
 
-use flask_sid::Word;
+use flask_sid::{Memory, Name, Word};
+use std::alloc::Global;
 use text_lines::numeral;
 
 /// The greatest seed of a session that is made.
@@ -16,30 +17,45 @@ pub const MOST_CLIENTS: u8 = 62;
 /// The most run lines that a session that is made may have. One is the least.
 pub const MOST_LINES: u32 = 90_000;
 
+/// What a path is asked of: a version of a policy, by its number, and two types, by their names.
+#[derive(Debug, Drop)]
+pub struct PathAsked {
+    pub version: u64,
+    pub from: Name,
+    pub to: Name,
+}
+
 /// What the words of the command line ask.
-#[derive(Clone, Copy, Debug, PartialEq, Eq)]
+#[derive(Debug, Drop)]
 pub enum Command {
     /// Runs the session of the source, one line after the other, and writes what it prints.
     Serial,
     /// Makes a session from a seed, with so many clients and run lines, each within its limits, and writes its summary.
     Generate { seed: u32, clients: u8, lines: u32 },
+    /// Finds the shortest way of information between two types of the policy of the source.
+    Flow(PathAsked),
+    /// Finds the shortest way by which a domain of the policy of the source is entered from another.
+    Enter(PathAsked),
 }
 
 /// The command whose words stand in these places.
 #[tactic(auto, unfolding(crate::specs::Commands::command_by))]
 pub(crate) fn command_by(
+    alloc: Global,
     name: Option<&str>,
-    seed: Option<&str>,
-    clients: Option<&str>,
-    lines: Option<&str>,
-) -> Option<Command>
-    ensures { result ≡ Commands.command_by (told name.entry) (told seed.entry) (told clients.entry) (told lines.entry) }
+    one: Option<&str>,
+    two: Option<&str>,
+    three: Option<&str>,
+) -> Result<Option<Command>, Memory>
+    ensures { IfOk result (λ command. command ≡ Commands.command_by (told name.entry) (told one.entry) (told two.entry) (told three.entry)) }
 {
-    let name = name?;
-    match (seed, clients, lines) {
-        (None, None, None) => serial_form(name),
-        (Some(seed), Some(clients), Some(lines)) => generate_form(name, seed, clients, lines),
-        _ => None,
+    let Some(name) = name else {
+        return Ok(None);
+    };
+    match (one, two, three) {
+        (None, None, None) => Ok(serial_form(name)),
+        (Some(one), Some(two), Some(three)) => four_form(alloc, name, one, two, three),
+        _ => Ok(None),
     }
 }
 
@@ -55,14 +71,33 @@ fn serial_form(name: &str) -> Option<Command>
     }
 }
 
-// `generate SEED CLIENTS LINES`.
-#[tactic(auto, unfolding(crate::specs::Commands::generate_form))]
-fn generate_form(name: &str, seed: &str, clients: &str, lines: &str) -> Option<Command>
-    ensures { result ≡ Commands.generate_form name.now seed.now clients.now lines.now }
+// A command of four words, by the first.
+#[tactic(auto, unfolding(crate::specs::Commands::four_form))]
+fn four_form(
+    alloc: Global,
+    name: &str,
+    one: &str,
+    two: &str,
+    three: &str,
+) -> Result<Option<Command>, Memory>
+    ensures { IfOk result (λ command. command ≡ Commands.four_form name.now one.now two.now three.now) }
 {
-    if name != "generate" {
-        return None;
+    if name == "generate" {
+        Ok(generate_form(one, two, three))
+    } else if name == "flow" {
+        Ok(path_form(alloc, one, two, three)?.map(Command::Flow))
+    } else if name == "enter" {
+        Ok(path_form(alloc, one, two, three)?.map(Command::Enter))
+    } else {
+        Ok(None)
     }
+}
+
+// `SEED CLIENTS LINES`.
+#[tactic(auto, unfolding(crate::specs::Commands::generate_form))]
+fn generate_form(seed: &str, clients: &str, lines: &str) -> Option<Command>
+    ensures { result ≡ Commands.generate_form seed.now clients.now lines.now }
+{
     let seed = number_within(seed, 0, u64::from(MOST_SEED))?;
     let clients = number_within(clients, 1, u64::from(MOST_CLIENTS))?;
     let lines = number_within(lines, 1, u64::from(MOST_LINES))?;
@@ -71,6 +106,31 @@ fn generate_form(name: &str, seed: &str, clients: &str, lines: &str) -> Option<C
         clients: clients as u8,
         lines: lines as u32,
     })
+}
+
+// `VERSION FROM TO`.
+#[tactic(auto, unfolding(crate::specs::Commands::path_form))]
+fn path_form(
+    alloc: Global,
+    version: &str,
+    from: &str,
+    to: &str,
+) -> Result<Option<PathAsked>, Memory>
+    ensures { IfOk result (λ asked. asked ≡ Commands.path_form version.now from.now to.now) }
+{
+    let Some(version) = numeral(&Word::new(version.as_bytes())) else {
+        return Ok(None);
+    };
+    let from = Word::new(from.as_bytes());
+    let to = Word::new(to.as_bytes());
+    if !from.is_name() || !to.is_name() {
+        return Ok(None);
+    }
+    Ok(Some(PathAsked {
+        version,
+        from: Name::of(alloc, &from)?,
+        to: Name::of(alloc, &to)?,
+    }))
 }
 
 // The number from `least` to `most` that the text is a numeral of.

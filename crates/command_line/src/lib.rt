@@ -15,7 +15,7 @@ mod command;
 mod parser;
 
 use arguments::arguments;
-pub use command::{Command, MOST_CLIENTS, MOST_LINES, MOST_SEED};
+pub use command::{Command, MOST_CLIENTS, MOST_LINES, MOST_SEED, PathAsked};
 use flask_sid::{Memory, Word};
 use parser::parsed;
 use std::alloc::Global;

@@ -19,7 +19,7 @@ pub(crate) fn parsed<'a>(alloc: Global, arguments: &'a [&'a str]) -> Result<Opti
     ensures { IfOk result (λ command. command ≡ Commands.command_of (texts arguments.entry.now)) }
 {
     match matches(alloc, arguments) {
-        Ok(matches) => Ok(command_in(&matches)),
+        Ok(matches) => command_in(alloc, &matches),
         Err(error) => without_matches(&error),
     }
 }
@@ -32,9 +32,9 @@ fn program<'a>(alloc: Global) -> Result<clap::Command<'a>, AllocError>
         .no_binary_name(true)
         .disable_help_flag(true)
         .arg(Arg::new(alloc, "command").required(true))?
-        .arg(Arg::new(alloc, "seed"))?
-        .arg(Arg::new(alloc, "clients"))?
-        .arg(Arg::new(alloc, "lines"))
+        .arg(Arg::new(alloc, "one"))?
+        .arg(Arg::new(alloc, "two"))?
+        .arg(Arg::new(alloc, "three"))
 }
 
 fn matches<'a>(alloc: Global, arguments: &'a [&'a str]) -> Result<ArgMatches<'a>, Error>
@@ -55,14 +55,15 @@ fn without_matches(error: &Error) -> Result<Option<Command>, Memory>
     Ok(None)
 }
 
-fn command_in(matches: &ArgMatches<'_>) -> Option<Command>
-    ensures { result ≡ Commands.command_by (first_value (found_of matches.now) (codes "command")) (first_value (found_of matches.now) (codes "seed"))
-        (first_value (found_of matches.now) (codes "clients")) (first_value (found_of matches.now) (codes "lines")) }
+fn command_in(alloc: Global, matches: &ArgMatches<'_>) -> Result<Option<Command>, Memory>
+    ensures { IfOk result (λ command. command ≡ Commands.command_by (first_value (found_of matches.now) (codes "command")) (first_value (found_of matches.now) (codes "one"))
+        (first_value (found_of matches.now) (codes "two")) (first_value (found_of matches.now) (codes "three"))) }
 {
     command_by(
+        alloc,
         matches.get_str("command"),
-        matches.get_str("seed"),
-        matches.get_str("clients"),
-        matches.get_str("lines"),
+        matches.get_str("one"),
+        matches.get_str("two"),
+        matches.get_str("three"),
     )
 }

@@ -3,6 +3,7 @@ pub mod SerialLemmas
 pub mod AuditLemmas
 pub mod TopLemmas
 pub mod PartLemmas
+pub mod PathLemmas
 pub mod OpenedLemmas
 pub mod MadePolicy
 pub mod MadeLemmas

@@ -1,9 +1,9 @@
 -- How a run goes, by where it ends.
-use Rattle.std.proofs.Common.{◌≡◌, ◌≤◌, ℕ, Bool, true, false, List, [], length, Option, None, Some, Result, Ok, Err, refl, sym, ap, append-nil, inl, inr, arith}
+use Rattle.std.proofs.Common.{◌≡◌, ◌≤◌, ◌&&◌, ℕ, Bool, true, false, true≢false, List, [], length, Option, None, Some, Result, Ok, Err, refl, sym, ◌∙◌, ap, append-nil, inl, inr, arith}
+use Rattle.std.specs.Prelude.{◌⊎◌, OnOk, OnErr}
 use Rattle.flask_io.specs.Streams.{Takes, Adds}
 use Rattle.text_lines.specs.ResultSteps.{LineFault}
 use Rattle.text_lines.specs.declared.fault.FaultKind.{FaultKind}
-use Rattle.session_text.specs.Reading.{session_of}
 use Rattle.session_text.specs.declared.session.SessionParts.{SessionParts}
 use Rattle.flask_sid.specs.declared.context.ContextOf.{ContextOf}
 use Rattle.access_vectors.specs.Decisions.{Decisions}
@@ -12,14 +12,24 @@ use Rattle.policy_versions.specs.Judging.{Judged, TooMany, Broken, Fits, IsJudge
 use Rattle.policy_versions.specs.Compiling.{IsAnswer}
 use Rattle.policy_versions.specs.declared.compiling.CompileFault.{CompileFault}
 use Rattle.policy_versions.specs.declared.compiling.CompileFault.TheVariants.{TooManyContexts, Neverallow, Memory}
+use Rattle.flow_query.specs.declared.route.Kind.{Kind}
 use Rattle.command_line.specs.declared.command.Command.{Command}
 use Rattle.command_line.specs.declared.command.Command.TheVariants as command
-use Rattle.session_generator.specs.Generated.{generated}
+use Rattle.command_line.specs.declared.command.PathAsked.{PathAsked}
 use Rattle.flaskd_run.specs.Writing.{AddsFront}
 use Rattle.flaskd_run.specs.Reading.{IsEnd}
-use Rattle.flaskd_run.specs.Top.{reads_source, is_large, session_for, status_of, text_by, expected_of, answer_of, Answers, IsJudgedOf, IsJudgedFor, IsWhole, IsRead, Puts, PutsWhole, Ran, Serves, Served, IsRefused}
+use Rattle.flaskd_run.specs.Serial.{text_on, summary_on}
+use Rattle.flaskd_run.specs.Paths.{IsFound, found_text}
+use Rattle.flaskd_run.specs.Tasks.{reads_input, task_of, policy_in, IsText, Writes, WritesAll, WritesFront}
+use Rattle.flaskd_run.specs.Top.{reads_source, is_large, is_too_large, status_of, expected_of, Answers, IsTaskText, IsPrinted, IsPrintedUnless, IsAnswerOf, IsJudgedOf, IsJudgedFor, IsWhole, IsRead, Puts, PutsWhole, Ran, Serves, Served, IsRefused}
+use Rattle.flaskd_run.proofs.PathLemmas.{only_found}
+use Rattle.flaskd_run.specs.declared.paths.PathAnswer.{PathAnswer}
 use Rattle.flaskd_run.specs.declared.status.Status.{Status}
 use Rattle.flaskd_run.specs.declared.status.Status.TheVariants as status
+use Rattle.flaskd_run.specs.declared.stop.RunStop.{RunStop}
+use Rattle.flaskd_run.specs.declared.stop.RunStop.TheVariants as run_stop
+use Rattle.flaskd_run.specs.declared.task.Task.{Task}
+use Rattle.flaskd_run.specs.declared.task.Task.TheVariants as task
 
 -- nothing was taken
 takes_nothing : (left : Option (List ℕ)) → Takes left left []
@@ -32,20 +42,33 @@ nothing_put None text = ([], text, refl, refl)
 nothing_put (Some bytes) text = ([], text, refl, ap Some (sym (append-nil bytes)))
 
 -- nothing is told of what a policy comes to
-not_judged : (read : Result SessionParts LineFault) → IsJudgedOf read None
-not_judged (Ok session) = tt
+not_judged : (read : Result Task LineFault) → IsJudgedOf read None
+not_judged (Ok task) = tt
 not_judged (Err fault) = tt
 
--- there is no session, or nothing is told of what its policy comes to
+-- and then nothing is printed
+none_printed : (read : Result Task LineFault) → IsPrinted read None []
+none_printed (Ok task) = refl
+none_printed (Err fault) = refl
+
+none_printed_unless : (large : Bool) (read : Result Task LineFault) → IsPrintedUnless large read None []
+none_printed_unless true read = refl
+none_printed_unless false read = none_printed read
+
+-- there is no task, or nothing is told of what its policy comes to
 none_judged : (asked : Option Command) (bytes : List ℕ) → IsJudgedFor asked bytes None
 none_judged None bytes = tt
-none_judged (Some asked) bytes = not_judged (session_for asked bytes)
+none_judged (Some asked) bytes = not_judged (task_of asked bytes)
+
+none_answered : (asked : Option Command) (bytes : List ℕ) → IsAnswerOf asked bytes None []
+none_answered None bytes = refl
+none_answered (Some asked) bytes = none_printed_unless (is_too_large asked bytes) (task_of asked bytes)
 
 -- the words are no command
 pub usage_ran : (asked : Option Command) (left put : Option (List ℕ)) → asked ≡ None → Ran status.Usage asked left left put put
 unfolding expected_of
 usage_ran asked left put none =
-    rw none (record { taken = []; takes = takes_nothing left; bounded = omega arith; judged = None; is_judged = tt; answers = refl; whole = tt; puts = refl })
+    rw none (record { taken = []; takes = takes_nothing left; bounded = omega arith; judged = None; is_judged = tt; answers = refl; whole = tt; text = []; is_text = refl; puts = refl })
 
 -- memory was wanting before anything was read
 pub memory_ran : (asked : Option Command) (left put : Option (List ℕ)) → Ran status.Memory asked left left put put
@@ -57,6 +80,8 @@ memory_ran asked left put = record {
   is_judged = none_judged asked [];
   answers = tt;
   whole = whole_memory (reads_source asked);
+  text = [];
+  is_text = none_answered asked [];
   puts = inl refl;
 }
   where
@@ -64,11 +89,11 @@ memory_ran asked left put = record {
     whole_memory true = tt
     whole_memory false = tt
 
--- the input is too large
-pub large_ran : (before after put : Option (List ℕ)) (bytes : List ℕ) → is_large bytes ≡ true → Takes before after bytes → length bytes ≤ 4194305 → Ran status.TooLarge (Some command.Serial) before after put put
+-- a command that reads its input, and that is too large
+pub large_ran : (asked : Command) (before after put : Option (List ℕ)) (bytes : List ℕ) → reads_input asked ≡ true → is_large bytes ≡ true → Takes before after bytes → length bytes ≤ 4194305 → Ran status.TooLarge (Some asked) before after put put
 unfolding expected_of
-large_ran before after put bytes large takes bounded =
-    record { taken = bytes; takes = takes; bounded = bounded; judged = None; is_judged = not_judged _; answers = rw large refl; whole = tt; puts = refl }
+large_ran asked before after put bytes reads large takes bounded =
+    record { taken = bytes; takes = takes; bounded = bounded; judged = None; is_judged = not_judged _; answers = rw (reads, large) refl; whole = rw reads tt; text = []; is_text = none_answered (Some asked) bytes; puts = refl }
 
 -- what is served is answered
 answers_of : (said expected : Status) → Serves said expected → Answers said expected
@@ -106,78 +131,124 @@ puts_of reads status.WriteFault left before now text at_end puts = puts
 puts_of reads status.TooLarge left before now text at_end puts = puts
 puts_of reads status.Memory left before now text at_end puts = inr (at_end, puts)
 
+-- nothing is too large for a command that reads no input
+none_too_large : (asked : Command) (bytes : List ℕ) → reads_input asked ≡ false → is_too_large asked bytes ≡ false
+none_too_large asked bytes reads = rw reads refl
+
+-- and an input that is not
+not_too_large : (asked : Command) (bytes : List ℕ) → reads_input asked ≡ true → is_large bytes ≡ false → is_too_large asked bytes ≡ false
+not_too_large asked bytes reads small = rw (reads, small) refl
+
+-- what is printed where nothing is too large
+unless_not : (large : Bool) (read : Result Task LineFault) (judged : Option Judged) (text : List ℕ) → large ≡ false → IsPrinted read judged text → IsPrintedUnless large read judged text
+unless_not true read judged text not_large printed = absurd (true≢false not_large)
+unless_not false read judged text not_large printed = printed
+
 -- the input was read to its end
-pub served_ran : (said : Status) (before after put now : Option (List ℕ)) (bytes : List ℕ) → is_large bytes ≡ false → Takes before after bytes → length bytes ≤ 4194305 → IsEnd after → Served said command.Serial (session_of bytes) put now → Ran said (Some command.Serial) before after put now
-unfolding expected_of answer_of
-served_ran said before after put now bytes small takes bounded at_end served =
+pub served_ran : (said : Status) (asked : Command) (before after put now : Option (List ℕ)) (bytes : List ℕ) → reads_input asked ≡ true → is_large bytes ≡ false → Takes before after bytes → length bytes ≤ 4194305 → IsEnd after → Served said (task_of asked bytes) put now → Ran said (Some asked) before after put now
+unfolding expected_of
+served_ran said asked before after put now bytes reads small takes bounded at_end served =
+    let fitting : is_too_large asked bytes ≡ false = not_too_large asked bytes reads small in
     record {
       taken = bytes;
       takes = takes;
       bounded = bounded;
       judged = served.judged;
       is_judged = served.is_judged;
-      answers = rw small (answers_of said _ served.answers);
-      whole = whole_of said after at_end;
-      puts = puts_of true said after put now (answer_of (Some command.Serial) bytes served.judged) at_end (rw small served.puts);
+      answers = rw fitting (answers_of said _ served.answers);
+      whole = rw reads (whole_of said after at_end);
+      text = served.text;
+      is_text = unless_not (is_too_large asked bytes) (task_of asked bytes) served.judged served.text fitting served.is_text;
+      puts = puts_of (reads_input asked) said after put now served.text (rw reads at_end) served.puts;
     }
 
--- a session was made
-pub made_ran : (said : Status) (seed clients lines : ℕ) (left put now : Option (List ℕ)) → Served said (command.Generate seed clients lines) (Ok (generated seed clients lines)) put now
-    → Ran said (Some (command.Generate seed clients lines)) left left put now
-unfolding expected_of answer_of
-made_ran said seed clients lines left put now served =
+-- what is asked of the end of the input where none is read
+whole_unread : (said : Status) (left : Option (List ℕ)) → IsWhole false said left
+whole_unread said left = tt
+
+-- the input was made
+pub made_ran : (said : Status) (asked : Command) (left put now : Option (List ℕ)) → reads_input asked ≡ false → Served said (task_of asked []) put now → Ran said (Some asked) left left put now
+unfolding expected_of
+made_ran said asked left put now reads served =
+    let fitting : is_too_large asked [] ≡ false = none_too_large asked [] reads in
     record {
       taken = [];
       takes = takes_nothing left;
       bounded = omega arith;
       judged = served.judged;
       is_judged = served.is_judged;
-      answers = answers_of said _ served.answers;
-      whole = tt;
-      puts = puts_of false said left put now (answer_of (Some (command.Generate seed clients lines)) [] served.judged) tt served.puts;
+      answers = rw fitting (answers_of said _ served.answers);
+      whole = rw reads (whole_unread said left);
+      text = served.text;
+      is_text = unless_not (is_too_large asked []) (task_of asked []) served.judged served.text fitting served.is_text;
+      puts = puts_of (reads_input asked) said left put now served.text (rw reads tt) served.puts;
     }
 
--- what is served is no usage, and no fault of the source
-pub served_not_usage : (said : Status) (asked : Command) (read : Result SessionParts LineFault) (before after : Option (List ℕ)) → Served said asked read before after → said ≡ status.Usage → ⊥
-served_not_usage said asked read before after served is = of_status read served.judged (rw is at served.answers)
+-- what is served is no usage
+pub served_not_usage : (said : Status) (read : Result Task LineFault) (before after : Option (List ℕ)) → Served said read before after → said ≡ status.Usage → ⊥
+served_not_usage said read before after served is = of_status read served.judged (rw is at served.answers)
   where
-    of_status : (read : Result SessionParts LineFault) (judged : Option Judged) → status_of read judged ≡ status.Usage → ⊥
+    of_status : (read : Result Task LineFault) (judged : Option Judged) → status_of read judged ≡ status.Usage → ⊥
     of_status (Err fault) judged same = cc
-    of_status (Ok session) None same = cc
-    of_status (Ok session) (Some TooMany) same = cc
-    of_status (Ok session) (Some (Broken found)) same = cc
-    of_status (Ok session) (Some (Fits contexts)) same = cc
+    of_status (Ok task) None same = cc
+    of_status (Ok task) (Some TooMany) same = cc
+    of_status (Ok task) (Some (Broken found)) same = cc
+    of_status (Ok task) (Some (Fits contexts)) same = cc
 
--- how a text is served that is no session
-pub refused_served : (asked : Command) (line : ℕ) (kind : FaultKind) (put : Option (List ℕ)) (read : Result SessionParts LineFault) → read ≡ Err (record { line = line; kind = kind }) → Served (status.BadText line kind) asked read put put
-refused_served asked line kind put read is = rw is (record { judged = None; is_judged = tt; answers = refl; puts = refl })
+-- how what has a faulty line is served
+pub refused_served : (line : ℕ) (kind : FaultKind) (put : Option (List ℕ)) (read : Result Task LineFault) → read ≡ Err (record { line = line; kind = kind }) → Served (status.BadText line kind) read put put
+refused_served line kind put read is = rw is (record { judged = None; is_judged = tt; answers = refl; text = []; is_text = refl; puts = refl })
 
 -- memory was wanting before anything was written
-pub memory_served : (asked : Command) (read : Result SessionParts LineFault) (put : Option (List ℕ)) → Served status.Memory asked read put put
-memory_served asked read put = record { judged = None; is_judged = not_judged read; answers = tt; puts = nothing_put put _ }
+pub memory_served : (read : Result Task LineFault) (put : Option (List ℕ)) → Served status.Memory read put put
+memory_served read put = record { judged = None; is_judged = not_judged read; answers = tt; text = []; is_text = none_printed read; puts = nothing_put put [] }
 
--- a session whose policy is not compiled
-pub refused_policy : (asked : Command) (session : SessionParts) (policy : PolicyParts) (fault : CompileFault) (said : Status) (put : Option (List ℕ)) → session.policy ≡ policy → IsAnswer policy (Err fault) → IsRefused policy fault said → Served said asked (Ok session) put put
-refused_policy asked session policy TooManyContexts said put same judged is =
-    rw is (record { judged = Some TooMany; is_judged = rw (← same) at judged; answers = refl; puts = refl })
-refused_policy asked session policy (Neverallow version line s t perm) said put same judged is = by_case is
+-- a task whose policy is not compiled
+pub refused_policy : (asked : Task) (policy : PolicyParts) (fault : CompileFault) (said : Status) (put : Option (List ℕ)) → policy_in asked ≡ policy → IsAnswer policy (Err fault) → IsRefused policy fault said → Served said (Ok asked) put put
+refused_policy asked policy TooManyContexts said put same judged is =
+    rw is (record { judged = Some TooMany; is_judged = rw (← same) at judged; answers = refl; text = []; is_text = refl; puts = refl })
+refused_policy asked policy (Neverallow version line s t perm) said put same judged is = by_case is
   where
-    by_case : IsRefused policy (Neverallow version line s t perm) said → Served said asked (Ok session) put put
-    by_case (inl memory) = rw memory (memory_served asked (Ok session) put)
-    by_case (inr broken) = rw (broken, ← same) (record { judged = Some (Broken (record { version = version; line = line; s = s; t = t; perm = perm })); is_judged = rw (← same) at judged; answers = refl; puts = refl })
-refused_policy asked session policy Memory said put same judged is = rw is (memory_served asked (Ok session) put)
+    by_case : IsRefused policy (Neverallow version line s t perm) said → Served said (Ok asked) put put
+    by_case (inl memory) = rw memory (memory_served (Ok asked) put)
+    by_case (inr broken) = rw (broken, ← same) (record { judged = Some (Broken (record { version = version; line = line; s = s; t = t; perm = perm })); is_judged = rw (← same) at judged; answers = refl; text = []; is_text = refl; puts = refl })
+refused_policy asked policy Memory said put same judged is = rw is (memory_served (Ok asked) put)
 
--- a session that ran to its end
-pub ok_served : (asked : Command) (session parts : SessionParts) (contexts : List (ContextOf (List ℕ))) (d : Decisions) (put now : Option (List ℕ)) → parts ≡ session → IsJudged parts.policy (Fits contexts) → d ≡ decisions_of parts.policy contexts → Adds put now (text_by asked contexts d parts) → Served status.Ok asked (Ok session) put now
-ok_served asked session parts contexts d put now same judged decides adds =
-    rw (← same) (record { judged = Some (Fits contexts); is_judged = judged; answers = refl; puts = rw decides at adds })
+-- a task that was done
+pub ok_served : (asked : Task) (contexts : List (ContextOf (List ℕ))) (put now : Option (List ℕ)) → IsJudged (policy_in asked) (Fits contexts) → WritesAll asked contexts put now → Served status.Ok (Ok asked) put now
+ok_served asked contexts put now judged written =
+    record { judged = Some (Fits contexts); is_judged = judged; answers = refl; text = written.text; is_text = written.is_text; puts = written.adds }
 
--- a session of whose text a front was written before the sink failed
-pub failed_served : (asked : Command) (session parts : SessionParts) (contexts : List (ContextOf (List ℕ))) (d : Decisions) (put now : Option (List ℕ)) → parts ≡ session → IsJudged parts.policy (Fits contexts) → d ≡ decisions_of parts.policy contexts → AddsFront put now (text_by asked contexts d parts) → Served status.WriteFault asked (Ok session) put now
-failed_served asked session parts contexts d put now same judged decides adds =
-    rw (← same) (record { judged = Some (Fits contexts); is_judged = judged; answers = refl; puts = rw decides at adds })
+-- a task of whose text a front was written before the sink failed
+pub failed_served : (asked : Task) (contexts : List (ContextOf (List ℕ))) (put now : Option (List ℕ)) → IsJudged (policy_in asked) (Fits contexts) → WritesFront asked contexts put now → Served status.WriteFault (Ok asked) put now
+failed_served asked contexts put now judged written =
+    record { judged = Some (Fits contexts); is_judged = judged; answers = refl; text = written.text; is_text = written.is_text; puts = written.adds }
 
--- or before memory was wanting
-pub cut_served : (asked : Command) (session parts : SessionParts) (contexts : List (ContextOf (List ℕ))) (d : Decisions) (put now : Option (List ℕ)) → parts ≡ session → IsJudged parts.policy (Fits contexts) → d ≡ decisions_of parts.policy contexts → AddsFront put now (text_by asked contexts d parts) → Served status.Memory asked (Ok session) put now
-cut_served asked session parts contexts d put now same judged decides adds =
-    rw (← same) (record { judged = Some (Fits contexts); is_judged = judged; answers = tt; puts = rw decides at adds })
+-- or before memory was wanting, which may come before there is a text
+pub cut_served : (asked : Task) (contexts : List (ContextOf (List ℕ))) (put now : Option (List ℕ)) → IsJudged (policy_in asked) (Fits contexts) → (now ≡ put) ⊎ WritesFront asked contexts put now → Served status.Memory (Ok asked) put now
+cut_served asked contexts put now judged (inl same) = rw same (memory_served (Ok asked) put)
+cut_served asked contexts put now judged (inr written) =
+    record { judged = Some (Fits contexts); is_judged = judged; answers = tt; text = written.text; is_text = written.is_text; puts = written.adds }
+
+-- ---- the text of each task
+
+-- the one text that a task owes was written, or a front of it
+of_text : {A : Type 0} (result : Result A RunStop) (asked : Task) (contexts : List (ContextOf (List ℕ))) (put now : Option (List ℕ)) (text : List ℕ) → IsText asked contexts text → OnOk result (Adds put now text) → OnErr result (AddsFront put now text) → Writes result asked contexts put now
+of_text (Ok done) asked contexts put now text is ok err = record { text = text; is_text = is; adds = ok }
+of_text (Err run_stop.WriteFault) asked contexts put now text is ok err = record { text = text; is_text = is; adds = err }
+of_text (Err run_stop.Memory) asked contexts put now text is ok err = inr (record { text = text; is_text = is; adds = err })
+
+-- all that a session says
+pub serial_writes : {A : Type 0} (result : Result A RunStop) (session parts : SessionParts) (contexts : List (ContextOf (List ℕ))) (d : Decisions) (put now : Option (List ℕ)) → parts ≡ session → d ≡ decisions_of session.policy contexts → OnOk result (Adds put now (text_on contexts d parts)) → OnErr result (AddsFront put now (text_on contexts d parts)) → Writes result (task.Serial session) contexts put now
+serial_writes result session parts contexts d put now same decides ok err =
+    of_text result (task.Serial session) contexts put now (text_on contexts d parts) (rw (same, decides) refl) ok err
+
+-- its summary alone
+pub summary_writes : {A : Type 0} (result : Result A RunStop) (session parts : SessionParts) (contexts : List (ContextOf (List ℕ))) (d : Decisions) (put now : Option (List ℕ)) → parts ≡ session → d ≡ decisions_of session.policy contexts → OnOk result (Adds put now (summary_on d parts)) → OnErr result (AddsFront put now (summary_on d parts)) → Writes result (task.Summary session) contexts put now
+summary_writes result session parts contexts d put now same decides ok err =
+    of_text result (task.Summary session) contexts put now (summary_on d parts) (rw (same, decides) refl) ok err
+
+-- what was found
+pub path_writes : {A : Type 0} (result : Result A RunStop) (policy parts : PolicyParts) (contexts : List (ContextOf (List ℕ))) (kind : Kind) (asked : PathAsked) (found : PathAnswer) (put now : Option (List ℕ)) → parts ≡ policy → IsFound policy contexts kind asked found → OnOk result (Adds put now (found_text parts found)) → OnErr result (AddsFront put now (found_text parts found)) → Writes result (task.Path policy kind asked) contexts put now
+path_writes result policy parts contexts kind asked found put now same is ok err =
+    of_text result (task.Path policy kind asked) contexts put now (found_text parts found) (record { found = found; is_found = is; only = only_found policy contexts kind asked found is; text_is = rw same refl }) ok err

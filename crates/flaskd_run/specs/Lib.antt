@@ -4,4 +4,6 @@ pub mod Texts
 pub mod Lines
 pub mod Serial
 pub mod Underway
+pub mod Paths
+pub mod Tasks
 pub mod Top

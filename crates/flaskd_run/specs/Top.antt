@@ -1,30 +1,26 @@
 -- What the program answers.
-use Rattle.std.specs.Prelude.{◌≡◌, ◌≤◌, ◌⊎◌, ℕ, Bool, true, false, nat_lt, List, [], length, Option, Some, None, Result, Ok, Err, if◌then◌else◌}
+use Rattle.std.specs.Prelude.{◌≡◌, ◌≤◌, ◌⊎◌, ℕ, Bool, true, false, ◌&&◌, nat_lt, List, [], length, Option, Some, None, Result, Ok, Err, if◌then◌else◌}
 use Rattle.flask_io.specs.Streams.{Takes, Adds}
 use Rattle.text_lines.specs.ResultSteps.{LineFault}
 use Rattle.policy_model.specs.declared.policy.PolicyParts.{PolicyParts}
-use Rattle.access_vectors.specs.Decisions.{Decisions}
-use Rattle.policy_versions.specs.Judging.{Judged, TooMany, Broken, Fits, IsJudged, decisions_of}
+use Rattle.policy_versions.specs.Judging.{Judged, TooMany, Broken, Fits, IsJudged}
 use Rattle.policy_versions.specs.Places.{kind_at}
 use Rattle.policy_versions.specs.declared.compiling.CompileFault.{CompileFault}
 use Rattle.policy_versions.specs.declared.compiling.CompileFault.TheVariants.{TooManyContexts, Neverallow, Memory}
 use Rattle.policy_versions.specs.declared.broken.Break.{Break}
-use Rattle.session_text.specs.Reading.{session_of}
-use Rattle.session_text.specs.declared.session.SessionParts.{SessionParts}
 use Rattle.flaskd_run.specs.Reading.{IsEnd}
 use Rattle.flaskd_run.specs.Writing.{AddsFront}
+use Rattle.flaskd_run.specs.Tasks.{reads_input, task_of, policy_in, IsText}
 use Rattle.command_line.specs.declared.command.Command.{Command}
 use Rattle.command_line.specs.declared.command.Command.TheVariants as command
-use Rattle.session_generator.specs.Generated.{generated}
-use Rattle.flask_sid.specs.declared.context.ContextOf.{ContextOf}
-use Rattle.flaskd_run.specs.Serial.{text_on, summary_on}
+use Rattle.flaskd_run.specs.declared.task.Task.{Task}
 use Rattle.flaskd_run.specs.declared.status.Status.{Status}
 use Rattle.flaskd_run.specs.declared.status.Status.TheVariants as status
 
--- the command that reads a session from the source; the others read nothing
+-- the command of the words reads the source
 abbrev pub reads_source : Option Command → Bool
-reads_source (Some command.Serial) = true
-reads_source other = false
+reads_source None = false
+reads_source (Some asked) = reads_input asked
 
 -- more bytes than an input may have
 abbrev pub is_large : List ℕ → Bool
@@ -34,62 +30,56 @@ is_large bytes = nat_lt 4194304 (length bytes)
 abbrev pub broken_status : PolicyParts → Break → Status
 broken_status policy found = status.Neverallow found.version found.line (kind_at policy found.s) (kind_at policy found.t) found.perm
 
--- the status of a session, by what its policy comes to. Want of memory may leave that open, and nothing else is answered then
-abbrev pub session_status : SessionParts → Option Judged → Status
-session_status session None = status.Memory
-session_status session (Some TooMany) = status.TooManyContexts
-session_status session (Some (Broken found)) = broken_status session.policy found
-session_status session (Some (Fits contexts)) = status.Ok
+-- the status of a task, by what its policy comes to. Want of memory may leave that open, and nothing else is answered then
+abbrev pub task_status : Task → Option Judged → Status
+task_status task None = status.Memory
+task_status task (Some TooMany) = status.TooManyContexts
+task_status task (Some (Broken found)) = broken_status (policy_in task) found
+task_status task (Some (Fits contexts)) = status.Ok
 
--- the status of a text that was read, if nothing fails
-abbrev pub status_of : Result SessionParts LineFault → Option Judged → Status
-status_of (Ok session) judged = session_status session judged
+-- the status of what was read, if nothing fails
+abbrev pub status_of : Result Task LineFault → Option Judged → Status
+status_of (Ok task) judged = task_status task judged
 status_of (Err fault) judged = status.BadText fault.line fault.kind
 
--- the session of a command: `serial` reads it from the bytes of the source, and `generate` makes it of its numbers
-abbrev pub session_for : Command → List ℕ → Result SessionParts LineFault
-session_for command.Serial bytes = session_of bytes
-session_for (command.Generate seed clients lines) bytes = Ok (generated seed clients lines)
+-- what a task prints: nothing where its policy is refused, or nothing is told of it
+abbrev pub IsTaskText : Task → Option Judged → List ℕ → Type 0
+IsTaskText task (Some (Fits contexts)) text = IsText task contexts text
+IsTaskText task judged text = text ≡ []
 
--- what a command prints of a session under these decisions on these contexts: all, or its summary alone
-abbrev pub text_by : Command → List (ContextOf (List ℕ)) → Decisions → SessionParts → List ℕ
-text_by command.Serial contexts d session = text_on contexts d session
-text_by (command.Generate seed clients lines) contexts d session = summary_on d session
+-- what is printed of what was read
+abbrev pub IsPrinted : Result Task LineFault → Option Judged → List ℕ → Type 0
+IsPrinted (Ok task) judged text = IsTaskText task judged text
+IsPrinted (Err fault) judged text = text ≡ []
 
--- what a command prints of a session: nothing where its policy is refused
-abbrev pub session_text : Command → SessionParts → Option Judged → List ℕ
-session_text asked session (Some (Fits contexts)) = text_by asked contexts (decisions_of session.policy contexts) session
-session_text asked session judged = []
-
--- what a command prints
-abbrev pub printed : Command → Result SessionParts LineFault → Option Judged → List ℕ
-printed asked (Ok session) judged = session_text asked session judged
-printed asked (Err fault) judged = []
-
--- the policy of a session, where there is one and what its policy comes to is told, comes to that
-abbrev pub IsJudgedOf : Result SessionParts LineFault → Option Judged → Type 0
-IsJudgedOf (Ok session) (Some judged) = IsJudged session.policy judged
+-- the policy of a task, where there is one and what its policy comes to is told, comes to that
+abbrev pub IsJudgedOf : Result Task LineFault → Option Judged → Type 0
+IsJudgedOf (Ok task) (Some judged) = IsJudged (policy_in task) judged
 IsJudgedOf read judged = Unit {0}
 
--- the same, by the words; where they are no command there is no session
+-- the same, by the words; where they are no command there is no task
 abbrev pub IsJudgedFor : Option Command → List ℕ → Option Judged → Type 0
 IsJudgedFor None bytes judged = Unit {0}
-IsJudgedFor (Some asked) bytes judged = IsJudgedOf (session_for asked bytes) judged
+IsJudgedFor (Some asked) bytes judged = IsJudgedOf (task_of asked bytes) judged
 
 -- the input of a command that reads it is too large
 abbrev pub is_too_large : Command → List ℕ → Bool
-is_too_large command.Serial bytes = is_large bytes
-is_too_large (command.Generate seed clients lines) bytes = false
+is_too_large asked bytes = reads_input asked && is_large bytes
 
 -- the status of what is asked on input of these bytes, in the order of the tests
 unfoldable pub expected_of : Option Command → List ℕ → Option Judged → Status
 expected_of None bytes judged = status.Usage
-expected_of (Some asked) bytes judged = if is_too_large asked bytes then status.TooLarge else status_of (session_for asked bytes) judged
+expected_of (Some asked) bytes judged = if is_too_large asked bytes then status.TooLarge else status_of (task_of asked bytes) judged
 
--- what it prints: nothing where the input is refused
-unfoldable pub answer_of : Option Command → List ℕ → Option Judged → List ℕ
-answer_of None bytes judged = []
-answer_of (Some asked) bytes judged = if is_too_large asked bytes then [] else printed asked (session_for asked bytes) judged
+-- what is printed of what was read, but nothing where it is too large
+abbrev pub IsPrintedUnless : Bool → Result Task LineFault → Option Judged → List ℕ → Type 0
+IsPrintedUnless true read judged text = text ≡ []
+IsPrintedUnless false read judged text = IsPrinted read judged text
+
+-- what is printed of what is asked: nothing where the input is refused
+abbrev pub IsAnswerOf : Option Command → List ℕ → Option Judged → List ℕ → Type 0
+IsAnswerOf None bytes judged text = text ≡ []
+IsAnswerOf (Some asked) bytes judged text = IsPrintedUnless (is_too_large asked bytes) (task_of asked bytes) judged text
 
 -- a status where this one is expected: a fault of the source or want of memory may take its place, and a fault of the sink
 -- that of Ok alone
@@ -123,7 +113,7 @@ Puts reads status.Memory left before now text = (now ≡ before) ⊎ (IsRead rea
 Puts reads answer left before now text = now ≡ before
 
 -- how a run goes: it took at most one byte past the limit from the source, and of the bytes that it took and of what the
--- policy of the session comes to, status and text are the stated functions
+-- policy that is read or made comes to, status and text are as stated
 pub record Ran (status : Status) (asked : Option Command) (left_before left_after put_before put_after : Option (List ℕ)) : Type 0 where
   pub taken : List ℕ
   pub takes : Takes left_before left_after taken
@@ -132,7 +122,9 @@ pub record Ran (status : Status) (asked : Option Command) (left_before left_afte
   pub is_judged : IsJudgedFor asked taken judged
   pub answers : Answers status (expected_of asked taken judged)
   pub whole : IsWhole (reads_source asked) status left_after
-  pub puts : Puts (reads_source asked) status left_after put_before put_after (answer_of asked taken judged)
+  pub text : List ℕ
+  pub is_text : IsAnswerOf asked taken judged text
+  pub puts : Puts (reads_source asked) status left_after put_before put_after text
 
 -- the exit code of a status
 abbrev pub code_of : Status → ℕ
@@ -156,14 +148,14 @@ IsSilent status.ReadFault = Unit {0}
 IsSilent status.TooLarge = Unit {0}
 IsSilent answer = ⊥
 
--- what was written of a session that was read whole, or made
+-- what was written of a task, whose input was read whole, or made
 abbrev pub PutsWhole : Status → Option (List ℕ) → Option (List ℕ) → List ℕ → Type 0
 PutsWhole status.Ok before now text = Adds before now text
 PutsWhole status.WriteFault before now text = AddsFront before now text
 PutsWhole status.Memory before now text = AddsFront before now text
 PutsWhole answer before now text = now ≡ before
 
--- a status of a session that was read whole, or made
+-- a status of a task, whose input was read whole, or made
 abbrev pub Serves : Status → Status → Type 0
 Serves status.Memory expected = Unit {0}
 Serves status.WriteFault expected = expected ≡ status.Ok
@@ -177,13 +169,14 @@ IsRefused policy (Neverallow version line s t perm) answer =
     (answer ≡ status.Memory) ⊎ (answer ≡ broken_status policy (record { version = version; line = line; s = s; t = t; perm = perm }))
 IsRefused policy Memory answer = answer ≡ status.Memory
 
--- how a session that was read whole, or made, is served: status and text are the stated functions of it, and of what its
--- policy comes to
-pub record Served (status : Status) (asked : Command) (read : Result SessionParts LineFault) (before after : Option (List ℕ)) : Type 0 where
+-- how what was read whole, or made, is served: status and text are as stated, by it and by what its policy comes to
+pub record Served (status : Status) (read : Result Task LineFault) (before after : Option (List ℕ)) : Type 0 where
   pub judged : Option Judged
   pub is_judged : IsJudgedOf read judged
   pub answers : Serves status (status_of read judged)
-  pub puts : PutsWhole status before after (printed asked read judged)
+  pub text : List ℕ
+  pub is_text : IsPrinted read judged text
+  pub puts : PutsWhole status before after text
 
 -- how a session that was made ends: well, or the sink failed, or memory was wanting. It is never refused
 abbrev pub IsEndOfMade : Status → Type 0

@@ -4,6 +4,8 @@
 mod answers;
 mod auditing;
 mod lines;
+mod path_texts;
+mod paths;
 mod reading;
 mod running;
 mod said;
@@ -11,6 +13,7 @@ mod serial;
 mod status;
 mod stop;
 mod stops;
+mod task;
 mod texts;
 mod top;
 mod writing;

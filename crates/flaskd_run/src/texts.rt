@@ -180,6 +180,13 @@ fn put_denial(out: &mut Piece, perm: Perm) -> Result<(), Memory>
     ensures { OnOk result (out.new ≡ out.old ++ (codes "denied " ++ Texts.perm_text perm)) }
 {
     out.extend(b"denied ")?;
+    put_perm(out, perm)
+}
+
+/// Puts a permission with its class.
+pub fn put_perm(out: &mut Piece, perm: Perm) -> Result<(), Memory>
+    ensures { OnOk result (out.new ≡ out.old ++ Texts.perm_text perm) }
+{
     out.extend(class_name(perm.class()).as_bytes())?;
     out.extend(b" ")?;
     out.extend(perm_name(perm).as_bytes())

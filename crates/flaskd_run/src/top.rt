@@ -1,39 +1,39 @@
-//! The top call: which command is asked, the session that is read or made, its policy compiled, and its run.
+//! The top call: which command is asked, what it reads or makes, its policy compiled, and what it writes.
 
-ghost use Rattle.std.specs.Prelude.{◌≡◌, ◌⊎◌, ℕ, false, IsTrue, Some, None, Ok, Err, IfOk, OnOk, OnErr};
-ghost use Rattle.flask_io.specs.Streams.{Adds, HasCause};
-ghost use Rattle.command_line.specs.Commands.{command_of, IsWithin};
-ghost use Rattle.command_line.specs.declared.command.Command.{Command};
-ghost use Rattle.session_desk.specs.Desks.{AreOpenings};
-ghost use Rattle.session_generator.specs.Generated.{generated};
-ghost use Rattle.session_text.specs.Sessions.{IsSession, IsSidOf};
-ghost use Rattle.flaskd_run.specs.Serial.{openings_of};
-ghost use Rattle.flaskd_run.specs.Writing.{AddsFront};
-ghost use Rattle.flaskd_run.specs.declared.stop.RunStop.{RunStop};
+ghost use Rattle.std.specs.Prelude.{◌≡◌, ◌⊎◌, true, false, Some, None, Ok, Err, IfOk};
+ghost use Rattle.flask_io.specs.Streams.{HasCause};
+ghost use Rattle.command_line.specs.Commands.{command_of, IsRanged};
+ghost use Rattle.policy_versions.specs.Compiling.{IsCatalogueOf, sids_of};
 ghost use Rattle.policy_versions.specs.Places.{kind_at};
-ghost use Rattle.session_text.specs.Reading.{session_of};
+ghost use Rattle.flaskd_run.specs.Tasks;
 ghost use Rattle.flaskd_run.specs.Top;
 ghost use Rattle.flaskd_run.specs.declared.status.Status.{Status};
+ghost use Rattle.flaskd_run.specs.declared.stop.RunStop.{RunStop};
+ghost use Rattle.flaskd_run.specs.declared.task.Task.TheVariants as task;
 
+use crate::path_texts::write_found;
+use crate::paths::find;
 use crate::reading::{INPUT_LIMIT, ReadStop, read_all};
 use crate::serial::{serial, summary};
 use crate::status::Status;
 use crate::stop::RunStop;
 use crate::stops::Stops;
-use access_vectors::{Decider, Perm};
-use command_line::Command;
+use crate::task::{Task, reads_input, task_of};
+use access_vectors::Perm;
+use command_line::{Command, PathAsked};
 use flask_io::{Sink, Source};
-use flask_sid::{Memory, Name, SidTable, Word};
-use policy_model::PolicyParts;
-use policy_versions::{CompileFault, compile};
-use session_text::{Session, SessionParts, read};
+use flask_sid::{Memory, Name, Word};
+use flow_query::Kind;
+use policy_model::{PolicyParts, PolicyText};
+use policy_versions::{Catalogue, CompileFault, compile};
+use session_text::Session;
 use std::alloc::Global;
 use std::sync::Wait;
 use std::thread::Threads;
 use text_lines::TextFault;
 
-/// Runs the program by the words of its command, the program's own name not among them: runs a session that is read from
-/// the source and writes what it prints to the sink, or makes a session, runs it and writes its summary.
+/// Runs the program by the words of its command, the program's own name not among them: reads the source or makes a session, does
+/// what the command asks with it, and writes what that prints to the sink.
 pub fn flaskd<R: Threads + Wait, S: Source, K: Sink, G: Stops>(
     rt: &R,
     alloc: Global,
@@ -46,13 +46,13 @@ pub fn flaskd<R: Threads + Wait, S: Source, K: Sink, G: Stops>(
     ensures usage { result ≡ Status.Usage → command_of words.now ≡ None }
     ensures refused { command_of words.now ≡ None → (result ≡ Status.Usage) ⊎ (result ≡ Status.Memory) }
 
-    // Where the command reads no session the source is not read.
+    // Where the command reads no input the source is not read.
     ensures unread { Top.reads_source (command_of words.now) ≡ false → source.new ≡ source.old }
 
     // A session that is made of numbers is never refused.
     ensures made { Top.EndsMade (command_of words.now) result }
 
-    // Of the bytes that were taken from the source, status and text are the stated functions.
+    // Of the bytes that were taken from the source, status and text are as stated.
     ensures ran { Top.Ran result (command_of words.now) (S.left source.old) (S.left source.new) (K.written sink.old) (K.written sink.new) }
 
     // A fault comes only from its own cause, and none is passed over.
@@ -63,27 +63,27 @@ pub fn flaskd<R: Threads + Wait, S: Source, K: Sink, G: Stops>(
     let Ok(asked) = command_line::command_of(alloc, words) else {
         return Status::Memory;
     };
-    match asked {
-        None => Status::Usage,
-        Some(Command::Serial) => read_and_run(rt, alloc, source, sink),
-        Some(
-            Command::Generate {
-                seed,
-                clients,
-                lines,
-            },
-        ) => generate(rt, alloc, seed, clients, lines, sink),
+    let Some(asked) = asked else {
+        return Status::Usage;
+    };
+    if reads_input(&asked) {
+        read_and_serve(rt, alloc, asked, source, sink)
+    } else {
+        serve(rt, alloc, asked, &[], sink)
     }
 }
 
-/// Reads a session from the source, runs it and writes what it prints.
-fn read_and_run<R: Wait, S: Source, K: Sink>(
+/// Reads the source to its end, and does what a command asks with its bytes.
+fn read_and_serve<R: Wait, S: Source, K: Sink>(
     rt: &R,
     alloc: Global,
+    asked: Command,
     source: &mut S,
     sink: &mut K,
 ) -> Status
-    ensures ran { Top.Ran result (Some Command.Serial) (S.left source.old) (S.left source.new) (K.written sink.old) (K.written sink.new) }
+    requires reads { Tasks.reads_input asked ≡ true }
+    requires ranged { IsRanged asked }
+    ensures ran { Top.Ran result (Some asked) (S.left source.old) (S.left source.new) (K.written sink.old) (K.written sink.new) }
     ensures command { result ≡ Status.Usage → ⊥ }
     ensures read_fault { HasCause (S.faults source.old) (S.faults source.new) (result ≡ Status.ReadFault) }
     ensures write_fault { HasCause (K.faults sink.old) (K.faults sink.new) (result ≡ Status.WriteFault) }
@@ -97,67 +97,42 @@ fn read_and_run<R: Wait, S: Source, K: Sink>(
             if bytes.len() > INPUT_LIMIT {
                 return Status::TooLarge;
             }
-            serve(rt, alloc, bytes.as_slice(), sink)
+            serve(rt, alloc, asked, bytes.as_slice(), sink)
         }
     }
 }
 
-/// Reads the bytes as a session, runs it and writes what it prints.
-fn serve<R: Wait, K: Sink>(rt: &R, alloc: Global, bytes: &[u8], sink: &mut K) -> Status
-    ensures served { Top.Served result Command.Serial (session_of bytes.now) (K.written sink.old) (K.written sink.new) }
-    ensures silent { Top.IsSilent result → sink.new ≡ sink.old }
-    ensures cause { HasCause (K.faults sink.old) (K.faults sink.new) (result ≡ Status.WriteFault) }
-{
-    match read(alloc, bytes) {
-        Err(TextFault::Memory) => Status::Memory,
-        Err(TextFault::Text { line, kind }) => Status::BadText { line, kind },
-        Ok(session) => run(rt, alloc, Command::Serial, session, sink),
-    }
-}
-
-/// Makes a session of three numbers, runs it and writes its summary.
-fn generate<R: Wait, K: Sink>(
-    rt: &R,
-    alloc: Global,
-    seed: u32,
-    clients: u8,
-    lines: u32,
-    sink: &mut K,
-) -> Status
-    requires { IsWithin seed clients lines }
-    ensures served { Top.Served result (Command.Generate seed clients lines) (Ok (generated seed clients lines)) (K.written sink.old) (K.written sink.new) }
-    ensures made { Top.IsEndOfMade result }
-    ensures silent { Top.IsSilent result → sink.new ≡ sink.old }
-    ensures cause { HasCause (K.faults sink.old) (K.faults sink.new) (result ≡ Status.WriteFault) }
-{
-    let asked = Command::Generate {
-        seed,
-        clients,
-        lines,
-    };
-    match session_generator::generated(alloc, seed, clients, lines) {
-        Err(Memory) => Status::Memory,
-        Ok(session) => run(rt, alloc, asked, session, sink),
-    }
-}
-
-/// Compiles a session's policy, runs the session and writes what the command prints.
-fn run<R: Wait, K: Sink>(
+/// Does what a command asks, with these bytes where it reads them.
+fn serve<R: Wait, K: Sink>(
     rt: &R,
     alloc: Global,
     asked: Command,
-    session: Session,
+    bytes: &[u8],
     sink: &mut K,
 ) -> Status
-    ensures served { Top.Served result asked (Ok session) (K.written sink.old) (K.written sink.new) }
+    requires { IsRanged asked }
+    ensures served { Top.Served result (Tasks.task_of asked bytes.now) (K.written sink.old) (K.written sink.new) }
+    ensures command { result ≡ Status.Usage → ⊥ }
     ensures silent { Top.IsSilent result → sink.new ≡ sink.old }
     ensures cause { HasCause (K.faults sink.old) (K.faults sink.new) (result ≡ Status.WriteFault) }
 {
-    let parts = session.into_parts();
-    let policy = parts.policy.parts();
-    match compile(alloc, &parts.policy) {
-        Err(fault) => refused(alloc, policy, fault),
-        Ok(catalogue) => match write(rt, alloc, asked, parts, &catalogue, catalogue.sids(), sink) {
+    match task_of(alloc, asked, bytes) {
+        Err(TextFault::Memory) => Status::Memory,
+        Err(TextFault::Text { line, kind }) => Status::BadText { line, kind },
+        Ok(task) => run(rt, alloc, task, sink),
+    }
+}
+
+/// Compiles a task's policy, does the task and writes what it prints.
+fn run<R: Wait, K: Sink>(rt: &R, alloc: Global, task: Task, sink: &mut K) -> Status
+    ensures served { Top.Served result (Ok task) (K.written sink.old) (K.written sink.new) }
+    ensures command { result ≡ Status.Usage → ⊥ }
+    ensures silent { Top.IsSilent result → sink.new ≡ sink.old }
+    ensures cause { HasCause (K.faults sink.old) (K.faults sink.new) (result ≡ Status.WriteFault) }
+{
+    match compile(alloc, task.policy()) {
+        Err(fault) => refused(alloc, task.policy().parts(), fault),
+        Ok(catalogue) => match write(rt, alloc, task, &catalogue, sink) {
             Ok(()) => Status::Ok,
             Err(RunStop::WriteFault) => Status::WriteFault,
             Err(RunStop::Memory) => Status::Memory,
@@ -165,27 +140,81 @@ fn run<R: Wait, K: Sink>(
     }
 }
 
-/// Runs a session on a decider and writes what the command prints.
-fn write<R: Wait, D: Decider, K: Sink>(
+/// Does a task whose policy is compiled, and writes what it prints.
+fn write<R: Wait, K: Sink>(
     rt: &R,
     alloc: Global,
-    asked: Command,
-    session: SessionParts,
-    decider: &D,
-    contexts: &SidTable,
+    task: Task,
+    catalogue: &Catalogue,
     sink: &mut K,
 ) -> Result<(), RunStop>
-    requires session { IsSession session }
-    requires openings { AreOpenings (D.decides decider.now) (openings_of session) }
-    requires known { (sid : ℕ) → IsSidOf session.policy.contexts sid → IsTrue ((D.decides decider.now).known sid) }
-    ensures ok { OnOk result (Adds (K.written sink.old) (K.written sink.new) (Top.text_by asked contexts.now (D.decides decider.now) session)) }
-    ensures err { OnErr result (AddsFront (K.written sink.old) (K.written sink.new) (Top.text_by asked contexts.now (D.decides decider.now) session)) }
+    requires { IsCatalogueOf (Tasks.policy_in task) catalogue.now }
+    ensures writes { Tasks.Writes result task (sids_of catalogue.now) (K.written sink.old) (K.written sink.new) }
     ensures cause { HasCause (K.faults sink.old) (K.faults sink.new) (result ≡ Err RunStop.WriteFault) }
 {
-    match asked {
-        Command::Serial => serial(rt, alloc, session, decider, contexts, sink),
-        Command::Generate { .. } => summary(rt, alloc, session, decider, sink),
+    match task {
+        Task::Serial(session) => run_session(rt, alloc, session, catalogue, sink),
+        Task::Summary(session) => sum_session(rt, alloc, session, catalogue, sink),
+        Task::Path {
+            policy,
+            kind,
+            asked,
+        } => answer(alloc, &policy, catalogue, kind, &asked, sink),
     }
+}
+
+/// Runs a session whose policy is compiled, and writes all that its lines say.
+fn run_session<R: Wait, K: Sink>(
+    rt: &R,
+    alloc: Global,
+    session: Session,
+    catalogue: &Catalogue,
+    sink: &mut K,
+) -> Result<(), RunStop>
+    requires { IsCatalogueOf session.policy catalogue.now }
+    ensures writes { Tasks.Writes result (task.Serial session) (sids_of catalogue.now) (K.written sink.old) (K.written sink.new) }
+    ensures cause { HasCause (K.faults sink.old) (K.faults sink.new) (result ≡ Err RunStop.WriteFault) }
+{
+    serial(
+        rt,
+        alloc,
+        session.into_parts(),
+        catalogue,
+        catalogue.sids(),
+        sink,
+    )
+}
+
+/// Runs a session whose policy is compiled, and writes its summary alone.
+fn sum_session<R: Wait, K: Sink>(
+    rt: &R,
+    alloc: Global,
+    session: Session,
+    catalogue: &Catalogue,
+    sink: &mut K,
+) -> Result<(), RunStop>
+    requires { IsCatalogueOf session.policy catalogue.now }
+    ensures writes { Tasks.Writes result (task.Summary session) (sids_of catalogue.now) (K.written sink.old) (K.written sink.new) }
+    ensures cause { HasCause (K.faults sink.old) (K.faults sink.new) (result ≡ Err RunStop.WriteFault) }
+{
+    summary(rt, alloc, session.into_parts(), catalogue, sink)
+}
+
+/// Finds what is asked in a policy that is compiled, and writes what was found.
+fn answer<K: Sink>(
+    alloc: Global,
+    policy: &PolicyText,
+    catalogue: &Catalogue,
+    kind: Kind,
+    asked: &PathAsked,
+    sink: &mut K,
+) -> Result<(), RunStop>
+    requires { IsCatalogueOf policy.now catalogue.now }
+    ensures writes { Tasks.Writes result (task.Path policy.now kind asked.now) (sids_of catalogue.now) (K.written sink.old) (K.written sink.new) }
+    ensures cause { HasCause (K.faults sink.old) (K.faults sink.new) (result ≡ Err RunStop.WriteFault) }
+{
+    let found = find(alloc, policy, catalogue, kind, asked)?;
+    write_found(alloc, policy.parts(), &found, sink)
 }
 
 /// The status of a session whose policy is not compiled.

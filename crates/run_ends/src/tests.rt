@@ -124,3 +124,39 @@ fn slow_ends_change_nothing(rt: HostRuntime) -> Result<(), Fail> {
     assert_eq!(rt; sink.taken.as_bytes(), ANSWER);
     Ok(())
 }
+
+const POLICY: &[u8] = b"policy 1
+context u:r:a_t
+context u:r:b_t
+context u:r:c_t
+version
+allow a_t b_t file write
+allow c_t b_t file read
+";
+
+const PATH: &[u8] = b"path 2
+a_t b_t a_t b_t file write
+b_t c_t c_t b_t file read
+";
+
+#[test]
+fn a_path_goes_out_line_by_line(rt: HostRuntime) -> Result<(), Fail> {
+    let words = [
+        Word::new(b"flow"),
+        Word::new(b"0"),
+        Word::new(b"a_t"),
+        Word::new(b"c_t"),
+    ];
+    for (writes, status, written) in [
+        (&[][..], Status::Ok, PATH),
+        (&[1][..], Status::WriteFault, &PATH[..0]),
+        (&[3][..], Status::WriteFault, &PATH[..34]),
+    ] {
+        let mut source = MemorySource::new(POLICY, &[]);
+        let mut sink = MemorySink::new(rt.alloc(), writes);
+        let ended = flaskd(&rt, rt.alloc(), &words, &mut source, &mut sink, &NoStops);
+        assert_eq!(rt; ended, status);
+        assert_eq!(rt; sink.bytes(), written);
+    }
+    Ok(())
+}

@@ -5,7 +5,8 @@ use Rattle.command_line.proofs.PlaceLemmas.{given, refused_by, values_read}
 use Rattle.command_line.proofs.parser.parsed.Goals as goal
 
 pub returns-in-Ok : goal.returns-in-Ok
-returns-in-Ok c = c.command_in.ensures ∙ (values_read (found_of c.in-Ok.matches) _ c.in-Ok.ensures.rows ∙ given _ c.requires c.in-Ok.ensures.faults)
+returns-in-Ok c =
+    IfOk-weaker c.command_in.result _ _ (λ command is. is ∙ (values_read (found_of c.in-Ok.matches) _ c.in-Ok.ensures.rows ∙ given _ c.requires c.in-Ok.ensures.faults)) c.command_in.ensures
 
 pub returns-in-Err : goal.returns-in-Err
 returns-in-Err c =

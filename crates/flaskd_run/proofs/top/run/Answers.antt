@@ -1,36 +1,31 @@
-use Rattle.std.proofs.Common.{sym, ap}
-use Rattle.session_text.specs.declared.session.SessionParts.{SessionParts}
-use Rattle.policy_versions.specs.Compiling.{sids_of, decides_of}
-use Rattle.flaskd_run.proofs.SerialLemmas.{declared_known, openings_known}
+use Rattle.std.proofs.Common.{◌≡◌, Err, refl, subst}
+use Rattle.policy_model.specs.declared.policy.PolicyParts.{PolicyParts}
+use Rattle.policy_versions.specs.Compiling.{IsAnswer, sids_of}
+use Rattle.flaskd_run.specs.Tasks.{policy_in, Writes}
+use Rattle.flaskd_run.specs.declared.stop.RunStop.{RunStop}
+use Rattle.flaskd_run.specs.declared.stop.RunStop.TheVariants as run_stop
 use Rattle.flaskd_run.proofs.TopLemmas.{refused_policy, ok_served, failed_served, cut_served}
 use Rattle.flaskd_run.proofs.top.run.Goals as goal
 
 pub returns-in-Err-clause-served : goal.returns-in-Err-clause-served
 returns-in-Err-clause-served g c =
-    refused_policy c.args.asked c.args.session c.into_parts-parts.result.policy c.in-Err.fault c.refused.result _
-    (ap (λ (s : SessionParts). s.policy) (sym c.into_parts-parts.ensures.value)) c.in-Err.ensures (rw c.parts-policy.ensures.parts at c.refused.ensures)
-
-pub write-requires-clause-openings : goal.write-requires-clause-openings
-write-requires-clause-openings g c =
-    openings_known c.into_parts-parts.result (decides_of c.in-Ok.catalogue)
-    (rw (← c.into_parts-parts.ensures.value) at c.into_parts-parts.ensures.kept)
-    (declared_known c.into_parts-parts.result.policy (sids_of c.in-Ok.catalogue) (decides_of c.in-Ok.catalogue) c.in-Ok.ensures.judged.1 c.in-Ok.ensures.decides)
-
-pub write-requires-clause-known : goal.write-requires-clause-known
-write-requires-clause-known g c =
-    declared_known c.into_parts-parts.result.policy (sids_of c.in-Ok.catalogue) (decides_of c.in-Ok.catalogue) c.in-Ok.ensures.judged.1 c.in-Ok.ensures.decides
+    refused_policy c.args.task (policy_in c.args.task) c.in-Err.fault c.refused.result _
+    refl (subst (λ (policy : PolicyParts). IsAnswer policy (Err c.in-Err.fault)) c.policy.ensures c.in-Err.ensures) (rw (c.parts.ensures.parts, c.policy-in-Err.ensures) at c.refused.ensures)
 
 pub returns-in-Ok-write-clause-served : goal.returns-in-Ok-write-clause-served
 returns-in-Ok-write-clause-served g c =
-    ok_served c.args.asked c.args.session c.into_parts-parts.result (sids_of c.in-Ok.catalogue) (decides_of c.in-Ok.catalogue) _ _
-    c.into_parts-parts.ensures.value c.in-Ok.ensures.judged c.in-Ok.ensures.decides (rw c.sids.ensures at c.in-Ok-write.ensures.ok)
+    ok_served c.args.task (sids_of c.in-Ok.catalogue) _ _ (rw c.policy.ensures at c.in-Ok.ensures.judged) c.in-Ok-write.ensures.writes
 
 pub returns-in-Err-WriteFault-clause-served : goal.returns-in-Err-WriteFault-clause-served
 returns-in-Err-WriteFault-clause-served g c =
-    failed_served c.args.asked c.args.session c.into_parts-parts.result (sids_of c.in-Ok.catalogue) (decides_of c.in-Ok.catalogue) _ _
-    c.into_parts-parts.ensures.value c.in-Ok.ensures.judged c.in-Ok.ensures.decides (rw c.sids.ensures at c.in-Err-WriteFault.ensures.err)
+    let fault : c.in-Err-WriteFault.field-0 ≡ run_stop.WriteFault = c.in-Err-WriteFault.field-0-is in
+    failed_served c.args.task (sids_of c.in-Ok.catalogue) (g.K.Sink.written c.args.sink.now) (g.K.Sink.written c.write.new.sink) (rw c.policy.ensures at c.in-Ok.ensures.judged)
+    (subst (λ (stop : RunStop). Writes {A = Unit {0}} (Err stop) c.args.task (sids_of c.in-Ok.catalogue) (g.K.Sink.written c.args.sink.now) (g.K.Sink.written c.write.new.sink))
+    fault c.in-Err-WriteFault.ensures.writes)
 
 pub returns-clause-served : goal.returns-clause-served
 returns-clause-served g c =
-    cut_served c.args.asked c.args.session c.into_parts-parts.result (sids_of c.in-Ok.catalogue) (decides_of c.in-Ok.catalogue) _ _
-    c.into_parts-parts.ensures.value c.in-Ok.ensures.judged c.in-Ok.ensures.decides (rw c.sids.ensures at c.in-Err-Memory.ensures.err)
+    let memory : c.in-Err-Memory.field-0 ≡ run_stop.Memory = c.in-Err-Memory.field-0-is in
+    cut_served c.args.task (sids_of c.in-Ok.catalogue) (g.K.Sink.written c.args.sink.now) (g.K.Sink.written c.write.new.sink) (rw c.policy.ensures at c.in-Ok.ensures.judged)
+    (subst (λ (stop : RunStop). Writes {A = Unit {0}} (Err stop) c.args.task (sids_of c.in-Ok.catalogue) (g.K.Sink.written c.args.sink.now) (g.K.Sink.written c.write.new.sink))
+    memory c.in-Err-Memory.ensures.writes)

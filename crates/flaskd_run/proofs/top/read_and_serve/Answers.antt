@@ -1,0 +1,18 @@
+use Rattle.std.proofs.Common.{arith, ◌≡◌, true, false}
+use Rattle.std.proofs.lemmas.Bool.Decides.{nat_tests}
+use Rattle.flaskd_run.specs.Top.{is_large}
+use Rattle.flaskd_run.proofs.TopLemmas.{large_ran, served_ran}
+use Rattle.flaskd_run.proofs.top.read_and_serve.Goals as goal
+
+pub returns-then-len-gt-INPUT_LIMIT-clause-ran : goal.returns-then-len-gt-INPUT_LIMIT-clause-ran
+returns-then-len-gt-INPUT_LIMIT-clause-ran g c =
+    let bytes = c.read_all.new.bytes.items in
+    let large : is_large bytes ≡ true = grind (arith, nat_tests) in
+    large_ran c.args.asked _ _ _ bytes c.requires.reads large c.in-Ok.ensures.takes (omega (arith, c.in-Ok.ensures.bounded))
+
+pub returns-clause-ran : goal.returns-clause-ran
+returns-clause-ran g c =
+    let bytes = c.read_all.new.bytes.items in
+    let small : is_large bytes ≡ false = grind (arith, nat_tests) in
+    served_ran c.serve.result c.args.asked _ _ _ _ bytes c.requires.reads small c.in-Ok.ensures.takes (omega (arith, c.in-Ok.ensures.bounded))
+    (c.in-Ok.ensures.whole (omega arith)) (rw c.as_slice.ensures.value at c.serve.ensures.served)
