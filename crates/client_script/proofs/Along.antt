@@ -10,31 +10,37 @@ use Rattle.client_acts.specs.Standings.{Standing}
 use Rattle.client_acts.specs.Moves.{GoesOn, HasCalled, HasCalledNone, HasTaken, HasGiven, HasMoved}
 use Rattle.client_script.specs.Underway.{IsAlong}
 
-module _ {Call Reply : Type 0} (act : ℕ → Run → List (Act Call)) (client : ℕ) (all : List RunLine) where
-  -- the number under which a client goes on is no older than its last entry
-  not_older : (held : Option ℕ) (last newest number : ℕ) → last ≤ newest → ((number : ℕ) → held ≡ Some number → last ≤ number) → MayHave held newest number → last ≤ number
-  not_older None last newest number below above may = omega (arith, below, may)
-  not_older (Some held) last newest number below above may =
-      let least = above held refl in
-      omega (arith, least, may)
+-- the number under which a client goes on is no older than its last entry
+not_older : (held : Option ℕ) (last newest number : ℕ) → last ≤ newest → ((number : ℕ) → held ≡ Some number → last ≤ number) → MayHave held newest number → last ≤ number
+not_older None last newest number below above may = omega (arith, below, may)
+not_older (Some held) last newest number below above may =
+    let least = above held refl in
+    omega (arith, least, may)
 
-  -- a call may have the number of the pass that is held, and else one that is no older than the last entry
-  may_have : (held : Option ℕ) (last newest number : ℕ) → last ≤ newest → MayHave held newest number → MayHave held last number
-  may_have None last newest number below may = omega (arith, below, may)
-  may_have (Some held) last newest number below may = may
+-- a call may have the number of the pass that is held, and else one that is no older than the last entry
+may_have : (held : Option ℕ) (last newest number : ℕ) → last ≤ newest → MayHave held newest number → MayHave held last number
+may_have None last newest number below may = omega (arith, below, may)
+may_have (Some held) last newest number below may = may
 
-  -- a number under which a client goes on is that of the pass that it holds
-  held_is : (held : Option ℕ) (newest number other : ℕ) → MayHave held newest number → held ≡ Some other → number ≤ other
-  held_is None newest number other may is = absurd cc
-  held_is (Some held) newest number other may is = omega (arith, may, ap (λ (o : Option ℕ). unwrap_or o 0) is)
+-- a number under which a client goes on is that of the pass that it holds
+held_is : (held : Option ℕ) (newest number other : ℕ) → MayHave held newest number → held ≡ Some other → number ≤ other
+held_is None newest number other may is = absurd cc
+held_is (Some held) newest number other may is = omega (arith, may, ap (λ (o : Option ℕ). unwrap_or o 0) is)
 
-  none_held : (held : Option ℕ) (number last : ℕ) → held ≡ None → held ≡ Some number → last ≤ number
-  none_held held number last none is = absurd cc
+none_held : (held : Option ℕ) (number last : ℕ) → held ≡ None → held ≡ Some number → last ≤ number
+none_held held number last none is = absurd cc
 
+module _ {Call : Type 0} (act : ℕ → Run → List (Act Call)) (all : List RunLine) where
   -- one act more is done
-  done_more : (done : List (Act Call)) (one : Act Call) (left : List (Act Call)) → acts_by act all ≡ done ++ one ∷ left → acts_by act all ≡ (done ++ one ∷ []) ++ left
+  done_more : (done : List (Act Call)) (one : Act Call) (left : List (Act Call)) → acts_by act all ≡ done ++ (one ∷ left) → acts_by act all ≡ (done ++ one ∷ []) ++ left
   done_more done one left split = split ∙ sym (append_assoc done (one ∷ []) left)
 
+  -- the acts of a line stand before those of the lines that are left
+  of_line : (done acts : List (Act Call)) (line : RunLine) (left : List RunLine) → acts_by act all ≡ done ++ acts_by act (line ∷ left) → act line.line line.run ≡ acts
+      → acts_by act all ≡ done ++ (acts ++ acts_by act left)
+  of_line done acts line left split is = subst (λ (own : List (Act Call)). acts_by act all ≡ done ++ (own ++ acts_by act left)) is split
+
+module _ {Call Reply : Type 0} (act : ℕ → Run → List (Act Call)) (client : ℕ) (all : List RunLine) where
   module _ (line : RunLine) (left : List RunLine) (s t : Standing Call Reply) (along : IsAlong act client all (line ∷ left) s) where
     -- nothing to do
     along_none : act line.line line.run ≡ [] → t ≡ s → IsAlong act client all left t
@@ -46,7 +52,7 @@ module _ {Call Reply : Type 0} (act : ℕ → Run → List (Act Call)) (client :
           below = along.below;
           above = along.above;
           done = along.done;
-          split = along.split ∙ ap (λ (acts : List (Act Call)). along.done ++ acts ++ acts_by act left) none;
+          split = of_line act all along.done [] line left along.split none;
           leads = along.leads;
         })
 
@@ -61,7 +67,7 @@ module _ {Call Reply : Type 0} (act : ℕ → Run → List (Act Call)) (client :
           below = omega (arith, along.below, taken.on.newest);
           above = λ number has. omega (arith, least, ap (λ (o : Option ℕ). unwrap_or o 0) (sym taken.held ∙ has));
           done = along.done ++ Take ∷ [];
-          split = done_more along.done Take (acts_by act left) (along.split ∙ ap (λ (acts : List (Act Call)). along.done ++ acts ++ acts_by act left) is);
+          split = done_more act all along.done Take (acts_by act left) (of_line act all along.done (Take ∷ []) line left along.split is);
           leads = λ acts entries leads.
               subst (λ (mine : List (Entry Call Reply)). Leads client None 0 ((along.done ++ Take ∷ []) ++ acts) (mine ++ entries)) (sym taken.none)
               (subst (λ (acts : List (Act Call)). Leads client None 0 acts (s.mine ++ entries)) (sym (append_assoc along.done (Take ∷ []) acts))
@@ -79,7 +85,7 @@ module _ {Call Reply : Type 0} (act : ℕ → Run → List (Act Call)) (client :
           below = omega (arith, along.below, given.newest);
           above = λ number has. none_held t.held number along.last given.held has;
           done = along.done ++ Give ∷ [];
-          split = done_more along.done Give (acts_by act left) (along.split ∙ ap (λ (acts : List (Act Call)). along.done ++ acts ++ acts_by act left) is);
+          split = done_more act all along.done Give (acts_by act left) (of_line act all along.done (Give ∷ []) line left along.split is);
           leads = λ acts entries leads.
               subst (λ (mine : List (Entry Call Reply)). Leads client None 0 ((along.done ++ Give ∷ []) ++ acts) (mine ++ entries)) (sym given.none)
               (subst (λ (acts : List (Act Call)). Leads client None 0 acts (s.mine ++ entries)) (sym (append_assoc along.done (Give ∷ []) acts))
@@ -96,7 +102,7 @@ module _ {Call Reply : Type 0} (act : ℕ → Run → List (Act Call)) (client :
           below = called.noticed;
           above = λ number has. held_is s.held s.newest called.number number called.may (sym called.held ∙ has);
           done = along.done ++ Do mark call ∷ [];
-          split = done_more along.done (Do mark call) (acts_by act left) (along.split ∙ ap (λ (acts : List (Act Call)). along.done ++ acts ++ acts_by act left) is);
+          split = done_more act all along.done (Do mark call) (acts_by act left) (of_line act all along.done (Do mark call ∷ []) line left along.split is);
           leads = λ acts entries leads.
               subst (λ (mine : List (Entry Call Reply)). Leads client None 0 ((along.done ++ Do mark call ∷ []) ++ acts) (mine ++ entries)) (sym called.added)
               (subst (λ (own : List (Entry Call Reply)). Leads client None 0 ((along.done ++ Do mark call ∷ []) ++ acts) own) (sym (append_assoc s.mine (called.entry ∷ []) entries))

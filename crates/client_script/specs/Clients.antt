@@ -55,11 +55,11 @@ pub record HaveNone (s : Standings) : Type 0 where
   pub processes : s.processes.mine ≡ []
   pub ports : s.ports.mine ≡ []
 
--- after a line: at each manager what it does there was done, and no more
-pub record HasDone (line : RunLine) (s t : Standings) : Type 0 where
-  pub files : HasMoved (file_act line.line line.run) s.files t.files
-  pub processes : HasMoved (process_act line.line line.run) s.processes t.processes
-  pub ports : HasMoved (port_act line.line line.run) s.ports t.ports
+-- after a line with its number: at each manager what it does there was done, and no more
+pub record HasDone (mark : ℕ) (asks : Run) (s t : Standings) : Type 0 where
+  pub files : HasMoved (file_act mark asks) s.files t.files
+  pub processes : HasMoved (process_act mark asks) s.processes t.processes
+  pub ports : HasMoved (port_act mark asks) s.ports t.ports
 
 -- after a line that was given up for want of memory: there is no new entry
 pub record HasDoneNone (s t : Standings) : Type 0 where

@@ -1,4 +1,3 @@
 pub mod Scripts
 pub mod Clients
 pub mod Underway
-pub mod Splitting

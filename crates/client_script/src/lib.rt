@@ -6,9 +6,7 @@
 
 mod lines;
 mod script;
-mod split;
 mod stations;
 
 pub use script::run_script;
-pub use split::{Scripts, split};
 pub use stations::{Seats, Stations};

@@ -15,14 +15,14 @@ use session_text::{Run, RunLine};
 use std::sync::Wait;
 
 /// Takes a pass of a manager and holds it.
-fn begin_at<'d, D: Decider, F: Callback, P: Callback, Q: Callback>(
+fn begin_at<'d, D: Decider, F: Callback + Drop, P: Callback + Drop, Q: Callback + Drop>(
     stations: &Stations<'d, D, F, P, Q>,
     seats: &mut Seats<'d, D, F, P, Q>,
     manager: Manager,
 )
     requires seated { AreSeated stations.now seats.old }
     requires room { HaveRoom 0 (standings_of seats.old) }
-    ensures done { (mark client : ℕ) → HasDone (record { line = mark; run = run.Begin client manager }) (standings_of seats.old) (standings_of seats.new) }
+    ensures done { (mark client : ℕ) → HasDone mark (run.Begin client manager) (standings_of seats.old) (standings_of seats.new) }
     ensures seated { AreSeated stations.now seats.new }
 {
     match manager {
@@ -33,13 +33,13 @@ fn begin_at<'d, D: Decider, F: Callback, P: Callback, Q: Callback>(
 }
 
 /// Gives the held pass of a manager back.
-fn end_at<'d, D: Decider, F: Callback, P: Callback, Q: Callback>(
+fn end_at<'d, D: Decider, F: Callback + Drop, P: Callback + Drop, Q: Callback + Drop>(
     stations: &Stations<'d, D, F, P, Q>,
     seats: &mut Seats<'d, D, F, P, Q>,
     manager: Manager,
 )
     requires seated { AreSeated stations.now seats.old }
-    ensures done { (mark client : ℕ) → HasDone (record { line = mark; run = run.End client manager }) (standings_of seats.old) (standings_of seats.new) }
+    ensures done { (mark client : ℕ) → HasDone mark (run.End client manager) (standings_of seats.old) (standings_of seats.new) }
     ensures seated { AreSeated stations.now seats.new }
 {
     match manager {
@@ -50,7 +50,15 @@ fn end_at<'d, D: Decider, F: Callback, P: Callback, Q: Callback>(
 }
 
 /// Runs a line of a client. A line of the administrator asks nothing here. After `Memory` there is no new entry.
-pub(crate) fn run_line<'d, R: Wait, D: Decider, F: Callback, P: Callback, Q: Callback, G: Stops>(
+pub(crate) fn run_line<
+    'd,
+    R: Wait,
+    D: Decider,
+    F: Callback + Drop,
+    P: Callback + Drop,
+    Q: Callback + Drop,
+    G: Stops,
+>(
     worker: &Worker<'_, R, G>,
     stations: &Stations<'d, D, F, P, Q>,
     seats: &mut Seats<'d, D, F, P, Q>,
@@ -61,7 +69,7 @@ pub(crate) fn run_line<'d, R: Wait, D: Decider, F: Callback, P: Callback, Q: Cal
     requires room { HaveRoom 0 (standings_of seats.old) }
     requires client { AreOf client (standings_of seats.old) }
     requires formed { IsFormedFor D.decides stations.now client line.run }
-    ensures ok { OnOk result (HasDone line (standings_of seats.old) (standings_of seats.new)) }
+    ensures ok { OnOk result (HasDone line.line line.run (standings_of seats.old) (standings_of seats.new)) }
     ensures err { OnErr result (HasDoneNone (standings_of seats.old) (standings_of seats.new)) }
     ensures seated { AreSeated stations.now seats.new }
 {
@@ -69,18 +77,30 @@ pub(crate) fn run_line<'d, R: Wait, D: Decider, F: Callback, P: Callback, Q: Cal
     worker.stops.before(worker.rt, client, mark);
     match run {
         Run::File { client: _, call } => {
-            return do_call(worker, &stations.files, &mut seats.files, mark, call);
+            do_call(worker, &stations.files, &mut seats.files, mark, call)
         }
         Run::Process { client: _, call } => {
-            return do_call(worker, &stations.processes, &mut seats.processes, mark, call);
+            do_call(
+                worker,
+                &stations.processes,
+                &mut seats.processes,
+                mark,
+                call,
+            )
         }
         Run::Port { client: _, call } => {
-            return do_call(worker, &stations.ports, &mut seats.ports, mark, call);
+            do_call(worker, &stations.ports, &mut seats.ports, mark, call)
         }
-        Run::Begin { client: _, manager } => begin_at(stations, seats, manager),
-        Run::End { client: _, manager } => end_at(stations, seats, manager),
-        _ => {}
+        Run::Begin { client: _, manager } => {
+            begin_at(stations, seats, manager);
+            worker.stops.past(worker.rt, client, mark);
+            Ok(())
+        }
+        Run::End { client: _, manager } => {
+            end_at(stations, seats, manager);
+            worker.stops.past(worker.rt, client, mark);
+            Ok(())
+        }
+        _ => Ok(()),
     }
-    worker.stops.past(worker.rt, client, mark);
-    Ok(())
 }
