@@ -2,5 +2,7 @@
 #![tactic(auto)]
 
 mod ending;
+mod retiring;
 
 pub use ending::{Closed, end_run};
+pub use retiring::retire_client;

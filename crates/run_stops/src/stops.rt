@@ -34,8 +34,7 @@ impl Stops for NoStops {
         _client: u8,
         _line: u32,
         _seat: &Seat<V, D>,
-    ) {
-    }
+    ) {}
 
     fn past<R>(&self, _rt: &R, _client: u8, _line: u32) {}
 }
