@@ -1,11 +1,9 @@
 //! The same work as the proved program of this folder, as a Rust programmer writes it: a gate word and two leave counters, two
 //! ticket words, 512 cache rows in one table, and a boxed board with its history that the holder of the turn takes out.
 //!
-//! `plain_stations WORK THREADS ROUNDS` prints the nanoseconds of all processors together and a sum that tells the work was done;
-//! for `change` the longest time that a caller's read took, and how many changes were done.
+//! `plain_stations WORK ROUNDS` prints the nanoseconds of a processor, and a sum that tells the work was done.
 use std::cell::{Cell, UnsafeCell};
-use std::sync::atomic::{AtomicBool, AtomicU64, Ordering::SeqCst};
-use std::time::Instant;
+use std::sync::atomic::{AtomicU64, Ordering::SeqCst};
 use std::{env, hint, thread};
 
 const CLIENTS: usize = 4;
@@ -48,15 +46,12 @@ enum Reply {
 
 enum Entry {
     Op { _caller: u8, _mark: u32, _call: Call, _number: u32, _asked: Vec<Asked>, _reply: Reply },
-    Notice { _number: u32, _version: u8 },
-    Ack { _number: u32 },
 }
 
 struct Board {
     posted: u32,
     clients: Vec<u16>,
     slots: Vec<Option<Slot>>,
-    stale: Vec<usize>,
 }
 
 impl Board {
@@ -106,15 +101,12 @@ impl Board {
 /// A board with its history.
 struct Keeper {
     board: Board,
-    number: u32,
-    version: u8,
-    pending: Option<u8>,
     history: Vec<Entry>,
 }
 
 fn keeper() -> Keeper {
-    let board = Board { posted: 0, clients: vec![LABEL; CLIENTS], slots: vec![None; 64 * CLIENTS], stale: Vec::new() };
-    Keeper { board, number: 0, version: 0, pending: None, history: Vec::new() }
+    let board = Board { posted: 0, clients: vec![LABEL; CLIENTS], slots: vec![None; 64 * CLIENTS] };
+    Keeper { board, history: Vec::new() }
 }
 
 struct Station {
@@ -217,54 +209,6 @@ impl Station {
         self.give(keeper);
         Some(reply)
     }
-
-    /// Raises the number, and tells how many passes were entered before.
-    fn notify(&self, version: u8) -> u64 {
-        let mut keeper = self.take();
-        let number = keeper.number + 1;
-        let before = u64::from(keeper.number) << 44 | u64::from(keeper.version) << 36;
-        let raised = (u64::from(number) << 44 | u64::from(version) << 36).wrapping_sub(before);
-        let found = self.words[0].fetch_add(raised, SeqCst);
-        let (old, new) = (decided(keeper.version, LABEL, LABEL), decided(version, LABEL, LABEL));
-        keeper.board.stale = if old == new { Vec::new() } else { (0..64 * CLIENTS).rev().filter(|at| keeper.board.slots[*at].is_some()).collect() };
-        keeper.pending = Some(version);
-        keeper.history.push(Entry::Notice { _number: number, _version: version });
-        self.give(keeper);
-        found & ((1 << 36) - 1)
-    }
-
-    fn update(&self, most: usize) -> usize {
-        let mut keeper = self.take();
-        let number = keeper.number + 1;
-        let vector = decided(keeper.pending.unwrap_or(0), LABEL, LABEL);
-        for _ in 0..most {
-            let Some(at) = keeper.board.stale.pop() else { break };
-            if let Some(slot) = &mut keeper.board.slots[at] {
-                slot.bits = slot.mode & vector;
-                slot.follows = number;
-            }
-        }
-        let left = keeper.board.stale.len();
-        self.give(keeper);
-        left
-    }
-
-    fn acknowledge(&self, entered: u64) -> bool {
-        let mut keeper = self.take();
-        let number = keeper.number + 1;
-        let left = self.words[1 + (keeper.number % 2) as usize].load(SeqCst);
-        let done = left == entered && keeper.board.stale.is_empty();
-        if done {
-            for slot in keeper.board.slots.iter_mut().flatten() {
-                slot.follows = number;
-            }
-            keeper.number = number;
-            keeper.version = keeper.pending.take().unwrap_or(0);
-            keeper.history.push(Entry::Ack { _number: number });
-        }
-        self.give(keeper);
-        done
-    }
 }
 
 fn sum_of(reply: Option<Reply>) -> u64 {
@@ -343,91 +287,12 @@ fn one(work: &str, rounds: u32) -> (u64, u64) {
     (thread_time() - before, sum)
 }
 
-fn three(threads: u64, rounds: u32) -> (u64, u64) {
-    let stations = [Station::new(), Station::new(), Station::new()];
-    let ready = AtomicU64::new(0);
-    let run = |number: usize| {
-        let mut seats = [seat(number), seat(number), seat(number)];
-        for (station, seat) in stations.iter().zip(&mut seats) {
-            prepared(station, seat);
-        }
-        ready.fetch_add(1, SeqCst);
-        while ready.load(SeqCst) < threads {
-            hint::spin_loop();
-        }
-        let before = thread_time();
-        let mut sum = 0u64;
-        for _ in 0..rounds {
-            for (station, seat) in stations.iter().zip(&seats) {
-                sum += sum_of(station.call(seat, 0, Call::Read { slot: 0 }));
-            }
-        }
-        (thread_time() - before, sum)
-    };
-    thread::scope(|scope| {
-        let others: Vec<_> = (1..threads).map(|number| scope.spawn(move || run(number as usize))).collect();
-        let first = run(0);
-        others.into_iter().map(|other| other.join().unwrap()).fold(first, |(a, b), (c, d)| (a + c, b + d))
-    })
-}
-
-fn change(rounds: u32) -> (u64, u64) {
-    let station = Station::new();
-    let over = AtomicBool::new(false);
-    let ready = AtomicU64::new(0);
-    let mut seats: Vec<Seat> = (0..CLIENTS).map(seat).collect();
-    for seat in &mut seats {
-        station.enter(seat);
-        for slot in 0..64 {
-            station.call(seat, 0, Call::Open { slot, mode: 1 });
-        }
-        station.leave(seat);
-    }
-    let longest = thread::scope(|scope| {
-        let (station, over, ready) = (&station, &over, &ready);
-        let workers: Vec<_> = seats
-            .into_iter()
-            .map(|mut seat| {
-                scope.spawn(move || {
-                    let mut longest = 0;
-                    ready.fetch_add(1, SeqCst);
-                    while !over.load(SeqCst) {
-                        let begun = Instant::now();
-                        station.enter(&mut seat);
-                        station.call(&seat, 0, Call::Read { slot: 0 });
-                        station.leave(&mut seat);
-                        longest = longest.max(begun.elapsed().as_nanos() as u64);
-                    }
-                    longest
-                })
-            })
-            .collect();
-        while ready.load(SeqCst) < CLIENTS as u64 {
-            hint::spin_loop();
-        }
-        let mut counted = 0;
-        for number in 0..rounds {
-            // The passes of the other parity: those entered so far that were not of the old one.
-            counted = station.notify(u8::from(number % 2 == 0)) - counted;
-            while station.update(64) > 0 || !station.acknowledge(counted) {}
-        }
-        over.store(true, SeqCst);
-        workers.into_iter().map(|worker| worker.join().unwrap()).max().unwrap_or(0)
-    });
-    (longest, u64::from(rounds))
-}
-
 fn main() {
     let words: Vec<String> = env::args().skip(1).collect();
-    let [work, threads, rounds] = words.as_slice() else {
+    let [work, rounds] = words.as_slice() else {
         return;
     };
-    let (threads, rounds): (u64, u32) = (threads.parse().unwrap(), rounds.parse().unwrap());
-    let (took, sum) = match work.as_str() {
-        "core" => core(rounds),
-        "three" => three(threads, rounds),
-        "change" => change(rounds),
-        _ => one(work, rounds),
-    };
+    let rounds: u32 = rounds.parse().unwrap();
+    let (took, sum) = if work == "core" { core(rounds) } else { one(work, rounds) };
     println!("{took} {sum}");
 }

@@ -99,19 +99,6 @@ pub(crate) enum Refused {
     Memory,
 }
 
-/// A board of two clients, of which nothing was done yet.
-pub(crate) fn fresh_keeper<'d>(
-    alloc: Global,
-    decider: &'d Counting,
-) -> Option<Keeper<'d, BoardCore<EachBits>, Counting>>
-    ensures { IfSome result (λ keeper. length keeper.core.opening.clients ≡ 2) }
-{
-    let client = Sid::of(1)?;
-    let opening = two_clients(alloc, client).ok()?;
-    let core = example_board::new(alloc, opening, EachBits);
-    Some(Keeper::new(alloc, core, 0, decider))
-}
-
 /// A board of two clients behind its gate, with its administrator.
 pub(crate) fn opened<'d>(
     alloc: Global,

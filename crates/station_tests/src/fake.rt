@@ -180,6 +180,10 @@ fn a_call_that_wants_memory_adds_nothing(rt: HostRuntime) -> Result<(), Fail> {
     );
     board.leave(&mut seat);
     board.retire(seat, &mut office);
+    assert_eq!(rt; office.out(), 0);
+    if office.out() > 0 {
+        return Ok(());
+    }
     let keeper = board.close(office);
     assert_eq!(rt; keeper.entries().len(), 1);
     Ok(())

@@ -1,11 +1,7 @@
-//! Tests of stations: limits, passes, the cache over three numbers, forced acknowledgements, and threads.
+//! Tests of stations: limits, passes, the cache over three numbers, forced acknowledgements, rights that a change takes, and want of memory.
 #![tactic(auto)]
 
 #[cfg(test)]
 mod board;
 #[cfg(test)]
 mod fake;
-#[cfg(test)]
-mod lawful;
-#[cfg(test)]
-mod threads;
