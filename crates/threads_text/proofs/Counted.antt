@@ -2,7 +2,7 @@
 use Rattle.std.proofs.Common.{◌≡◌, ℕ, ◌+◌, Bool, List, [], ◌∷◌, length, arith}
 use Rattle.manager_history.specs.declared.entry.Entry.{Entry}
 use Rattle.manager_history.specs.declared.entry.Entry.TheVariants.{Op, Aborted, Notice, Ack, Forced}
-use Rattle.history_text.specs.Counts.{with_entry, with_entries, counts_of}
+use Rattle.history_text.specs.Counting.{with_entry, with_entries, counts_of}
 use Rattle.history_text.specs.declared.counts.Counts.{Counts}
 use Rattle.run_histories.specs.Changes.{acknowledged_in}
 

@@ -21,7 +21,7 @@ use Rattle.audit_log.specs.Texts.{line_text}
 use Rattle.audit_log.specs.declared.audited.AuditLine.{AuditLine}
 use Rattle.answer_text.specs.Replies.{file_words, process_words, port_words, is_file_denial, is_process_denial, is_port_denial}
 use Rattle.history_text.specs.Histories.{history_text}
-use Rattle.history_text.specs.Counts.{counts_of}
+use Rattle.history_text.specs.Counting.{counts_of}
 use Rattle.history_text.specs.declared.counts.Counts.{Counts}
 use Rattle.run_histories.specs.Changes.{changes_in}
 use Rattle.run_histories.specs.Histories.{AreOfRun}
