@@ -232,7 +232,7 @@ fn main() {
         let found = match std::hint::black_box(shortest(&rows, routes, &nodes, from, to)) {
             None => 1,
             Some(path) => path.iter().fold(2u64, |sum, (s, t, index)| {
-                sum.wrapping_mul(131).wrapping_add(u64::from(*s) * 1024 + u64::from(*t) * 8 + u64::from(*index))
+                [u64::from(*s), u64::from(*t), u64::from(*index)].iter().fold(sum, |sum, part| sum.wrapping_mul(131).wrapping_add(*part))
             }),
         };
         sum = sum.wrapping_mul(31).wrapping_add(found);
