@@ -62,9 +62,7 @@ impl<A: Managed, B: Managed, C: Managed> Managed for OneOfThree<A, B, C> {
 }
 
 /// The three managers, where they stand in the order files, processes, ports.
-pub fn three_of<A: Drop, B: Drop, C: Drop>(
-    managers: Vec<OneOfThree<A, B, C>>,
-) -> Option<(A, B, C)>
+pub fn three_of<A: Drop, B: Drop, C: Drop>(managers: Vec<OneOfThree<A, B, C>>) -> Option<(A, B, C)>
     ensures { (a : A) (b : B) (c : C) → managers.items ≡ one.Files a ∷ one.Processes b ∷ one.Ports c ∷ [] → result ≡ Some (a, b, c) }
 {
     let mut each = managers.into_iter();

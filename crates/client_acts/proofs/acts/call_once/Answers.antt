@@ -15,9 +15,9 @@ returns-clause-ok g c =
     c.begin.ensures.taken c.call-answer.ensures.kept c.call-answer.ensures.sound.lawful said.1 in
     elim c.if-not-holds.branch [
       | then-not-holds w ↦
-        let none = held_none before.view.rights.pass c.pass.result c.pass.ensures.pass (sym c.is_some-holds.ensures ∙ w.if-not-holds.true) in
-        rw (w.seat-is) (called_given c.args.mark c.args.call (standing_of before) (standing_of c.call-answer.new.seat) (standing_of w.end.new.seat) none one w.end.ensures.given)
+          let none = held_none before.view.rights.pass c.pass.result c.pass.ensures.pass (sym c.is_some-holds.ensures ∙ w.if-not-holds.true) in
+          rw (w.seat-is) (called_given c.args.mark c.args.call (standing_of before) (standing_of c.call-answer.new.seat) (standing_of w.end.new.seat) none one w.end.ensures.given)
       | else-not-holds w ↦
-        let held = held_one before.view.rights.pass c.pass.result c.pass.ensures.pass (sym c.is_some-holds.ensures ∙ w.if-not-holds.false) in
-        rw (w.seat-is) (called_held c.args.mark c.args.call (standing_of before) (standing_of c.call-answer.new.seat) held.0 held.1 one)
+          let held = held_one before.view.rights.pass c.pass.result c.pass.ensures.pass (sym c.is_some-holds.ensures ∙ w.if-not-holds.false) in
+          rw (w.seat-is) (called_held c.args.mark c.args.call (standing_of before) (standing_of c.call-answer.new.seat) held.0 held.1 one)
     ]
