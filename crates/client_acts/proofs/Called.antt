@@ -1,9 +1,8 @@
 -- A call at a station, and what it changes of where the client stands.
-use Rattle.std.proofs.Common.{◌≡◌, ℕ, ◌+◌, ◌≤◌, ◌∙◌, List, [], ◌∷◌, ◌++◌, Option, Some, None, unwrap_or, is_some, true, false, refl, sym, ap, subst, arith, append_assoc}
+use Rattle.std.proofs.Common.{◌≡◌, ℕ, ◌≤◌, ◌∙◌, List, [], ◌∷◌, ◌++◌, Option, Some, None, unwrap_or, is_some, true, false, refl, sym, ap, subst, arith, append_assoc}
 use Rattle.access_vectors.specs.Decisions.{Decisions}
 use Rattle.access_vectors.specs.declared.asked.Asked.{Asked}
 use Rattle.manager_history.specs.declared.entry.Entry.{Entry}
-use Rattle.manager_history.specs.declared.entry.Entry.TheVariants.{Op, Aborted}
 use Rattle.manager_history.specs.declared.answers.Answer.{Answer as Said}
 use Rattle.manager_history.specs.declared.answers.Answer.TheVariants as saying
 use Rattle.manager_history.specs.Answers.{Manager}

@@ -1,5 +1,5 @@
 -- The last notice of a lawful history: it is no older than that of a front of it, and no call has a greater number.
-use Rattle.std.proofs.Common.{◌≡◌, ℕ, ◌+◌, ◌≤◌, ◌<◌, ◌⊎◌, inl, inr, ◌∙◌, List, [], ◌∷◌, ◌++◌, Some, refl, sym, ap, subst, arith}
+use Rattle.std.proofs.Common.{◌≡◌, ℕ, ◌+◌, ◌≤◌, ◌⊎◌, inl, inr, ◌∙◌, List, [], ◌∷◌, ◌++◌, Some, refl, sym, ap, subst, arith}
 use Rattle.std.specs.List.{fold}
 use Rattle.access_vectors.specs.Decisions.{Decisions}
 use Rattle.access_vectors.specs.Forced.{forced_to, MayAbort}

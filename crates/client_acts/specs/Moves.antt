@@ -1,5 +1,5 @@
 -- What the acts of a client change of where it stands at a manager.
-use Rattle.std.specs.Prelude.{◌≡◌, ℕ, ◌≤◌, ◌+◌, List, [], ◌∷◌, ◌++◌, Option, Some, None}
+use Rattle.std.specs.Prelude.{◌≡◌, ℕ, ◌≤◌, ◌+◌, List, [], ◌∷◌, ◌++◌, Some, None}
 use Rattle.manager_history.specs.declared.entry.Entry.{Entry}
 use Rattle.client_acts.specs.Acts.{Act, Take, Give, Do, IsEntryOf, MayHave}
 use Rattle.client_acts.specs.Standings.{Standing}

@@ -1,5 +1,5 @@
 -- Where a client stands at a manager, by its seat.
-use Rattle.std.specs.Prelude.{◌≡◌, ℕ, ◌≤◌, ◌+◌, List, Option, Some, None}
+use Rattle.std.specs.Prelude.{ℕ, List, Option, Some, None}
 use Rattle.gate_rule.specs.declared.view.Pass.{Pass}
 use Rattle.gate_rule.specs.declared.view.Pass.TheVariants.{Out, Inside}
 use Rattle.gate_rule.specs.History.{last_notice}

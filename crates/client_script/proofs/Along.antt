@@ -1,5 +1,5 @@
 -- A script goes on by what a line does at a manager.
-use Rattle.std.proofs.Common.{◌≡◌, ℕ, ◌+◌, ◌≤◌, ◌<◌, ◌∙◌, List, [], ◌∷◌, ◌++◌, length, Option, Some, None, unwrap_or, refl, sym, ap, subst, arith, append_assoc}
+use Rattle.std.proofs.Common.{◌≡◌, ℕ, ◌≤◌, ◌<◌, ◌∙◌, List, [], ◌∷◌, ◌++◌, length, Option, Some, None, unwrap_or, refl, sym, ap, subst, arith, append_assoc}
 use Rattle.std.proofs.lemmas.List.{append-nil}
 use Rattle.manager_history.specs.declared.entry.Entry.{Entry}
 use Rattle.session_text.specs.declared.session.Run.{Run}
@@ -7,7 +7,7 @@ use Rattle.session_text.specs.declared.session.RunLine.{RunLine}
 use Rattle.client_acts.specs.Acts.{Act, Take, Give, Do, Leads, MayHave, IsEntryOf}
 use Rattle.client_script.specs.Scripts.{acts_by, IsWhole, IsFrontOf}
 use Rattle.client_acts.specs.Standings.{Standing}
-use Rattle.client_acts.specs.Moves.{GoesOn, HasCalled, HasCalledNone, HasTaken, HasGiven, HasMoved}
+use Rattle.client_acts.specs.Moves.{HasCalled, HasCalledNone, HasTaken, HasGiven, HasMoved}
 use Rattle.client_script.specs.Underway.{IsAlong}
 
 -- the number under which a client goes on is no older than its last entry

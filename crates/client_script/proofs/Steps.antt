@@ -1,10 +1,8 @@
 -- A client's script goes on by a line at each manager.
-use Rattle.std.proofs.Common.{◌≡◌, ℕ, ◌<◌, ◌∙◌, List, [], ◌∷◌, length, All, Result, Ok, Err, refl, sym, subst, arith}
+use Rattle.std.proofs.Common.{◌≡◌, ℕ, ◌∙◌, List, [], ◌∷◌, length, All, Result, Ok, Err, refl, sym, subst, arith}
 use Rattle.std.specs.Prelude.{OnErr}
 use Rattle.std.proofs.lemmas.List.Elements.{All-head, All-tail}
 use Rattle.session_text.specs.declared.session.RunLine.{RunLine}
-use Rattle.manager_history.specs.declared.entry.Entry.{Entry}
-use Rattle.client_acts.specs.Standings.{Standing}
 use Rattle.client_acts.specs.Moves.{HasGiven}
 use Rattle.client_script.specs.Scripts.{IsWhole, IsFrontOf, file_act, process_act, port_act}
 use Rattle.client_script.specs.Clients.{Standings, AreOf, HaveRoom, HaveNone, HoldNone, HasDone, HasDoneNone, HasRun, HasRunFront}

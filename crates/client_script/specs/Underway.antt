@@ -1,11 +1,8 @@
 -- A script on its way.
-use Rattle.std.specs.Prelude.{◌≡◌, ℕ, ◌≤◌, ◌<◌, List, ◌++◌, length, Option, Some, None}
+use Rattle.std.specs.Prelude.{◌≡◌, ℕ, ◌≤◌, ◌<◌, List, ◌++◌, length, Some, None}
 use Rattle.manager_history.specs.declared.entry.Entry.{Entry}
 use Rattle.session_text.specs.declared.session.Run.{Run}
 use Rattle.session_text.specs.declared.session.RunLine.{RunLine}
-use Rattle.file_calls.specs.declared.call.FileCall.{FileCall}
-use Rattle.process_calls.specs.declared.call.ProcessCall.{ProcessCall}
-use Rattle.port_calls.specs.declared.call.PortCall.{PortCall}
 use Rattle.client_acts.specs.Acts.{Act, Leads}
 use Rattle.client_script.specs.Scripts.{acts_by, file_act, process_act, port_act}
 use Rattle.client_acts.specs.Standings.{Standing}

@@ -1,5 +1,5 @@
 -- What the summary counts of a history.
-use Rattle.std.specs.Prelude.{ℕ, ◌+◌, Bool, true, false, List, [], ◌∷◌, if◌then◌else◌}
+use Rattle.std.specs.Prelude.{◌+◌, Bool, List, [], ◌∷◌, if◌then◌else◌}
 use Rattle.manager_history.specs.declared.entry.Entry.{Entry}
 use Rattle.manager_history.specs.declared.entry.Entry.TheVariants.{Op, Aborted, Notice, Ack, Forced}
 use Rattle.history_text.specs.declared.counts.Counts.{Counts}

@@ -1,6 +1,6 @@
 -- The text of a manager's history: a heading, and a line for each entry.
 use Rattle.std.specs.Prelude.{ℕ, List, [], ◌∷◌, ◌++◌, map, codes, decimal}
-use Rattle.text_print.specs.Printed.{ended, text_of}
+use Rattle.text_print.specs.Printed.{text_of}
 use Rattle.manager_history.specs.declared.entry.Entry.{Entry}
 use Rattle.manager_history.specs.declared.entry.Entry.TheVariants.{Op, Aborted, Notice, Ack, Forced}
 use Rattle.session_forms.specs.declared.run_forms.Manager.{Manager}

@@ -1,5 +1,4 @@
-use Rattle.std.proofs.Common.{◌≡◌, ◌∙◌, sym, subst, true, false}
-use Rattle.client_acts.specs.Moves.{HasCalled}
+use Rattle.std.proofs.Common.{◌∙◌, sym}
 use Rattle.client_acts.specs.Standings.{standing_of}
 use Rattle.client_acts.proofs.Called.{called, called_held, called_given, held_none, held_one}
 use Rattle.client_acts.proofs.acts.call_once.Goals.{then-not-holds, else-not-holds}
