@@ -6,7 +6,7 @@
 _flaskd() {
     local word=${COMP_WORDS[COMP_CWORD]}
     case $COMP_CWORD:${COMP_WORDS[1]} in
-        1:*) mapfile -t COMPREPLY < <(compgen -W 'serial generate flow enter' -- "$word") ;;
+        1:*) mapfile -t COMPREPLY < <(compgen -W 'serial threads generate flow enter' -- "$word") ;;
         2:generate) mapfile -t COMPREPLY < <(compgen -W '0 1 7 2147483647' -- "$word") ;;
         3:generate) mapfile -t COMPREPLY < <(compgen -W '1 8 62' -- "$word") ;;
         2:flow | 2:enter) mapfile -t COMPREPLY < <(compgen -W '0' -- "$word") ;;

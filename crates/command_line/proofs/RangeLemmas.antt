@@ -5,7 +5,7 @@ use Rattle.std.specs.Str.{bytes_eq}
 use Rattle.std.proofs.lemmas.Bool.Decides.{nat_tests}
 use Rattle.text_lines.specs.Numerals.{numeral_of}
 use Rattle.text_lines.specs.OptionSteps.{◌>>=◌}
-use Rattle.command_line.specs.Commands.{number_within, serial_form, generate_form, path_form, four_form, command_of, IsRanged}
+use Rattle.command_line.specs.Commands.{number_within, one_form, generate_form, path_form, four_form, command_of, IsRanged}
 use Rattle.command_line.specs.declared.command.Command.{Command}
 use Rattle.command_line.specs.declared.command.PathAsked.{PathAsked}
 use Rattle.command_line.specs.declared.command.Command.TheVariants as command
@@ -68,14 +68,23 @@ four_ranged name one two three = by_tests (bytes_eq name (codes "generate")) (by
     by_tests false false true = enter_ranged (path_form one two three)
     by_tests false false false = tt
 
+one_ranged : (name : List ℕ) → IfSome (one_form name) IsRanged
+unfolding one_form
+one_ranged name = by_tests (bytes_eq name (codes "serial")) (bytes_eq name (codes "threads"))
+  where
+    by_tests : (serial threads : Bool) → IfSome (if serial then Some command.Serial else if threads then Some command.Threads else None) IsRanged
+    by_tests true threads = tt
+    by_tests false true = tt
+    by_tests false false = tt
+
 -- the numbers of any command
 pub command_ranged : (words : List (List ℕ)) (found : Command) → command_of words ≡ Some found → IsRanged found
-unfolding command_of serial_form
+unfolding command_of
 command_ranged words found is = if_found IsRanged (command_of words) found (by_words words) is
   where
     by_words : (words : List (List ℕ)) → IfSome (command_of words) IsRanged
     by_words [] = tt
-    by_words (name ∷ []) = elim (bytes_eq name (codes "serial")) as (λ (named : Bool). IfSome (if named then Some command.Serial else None) IsRanged) [ true ↦ tt | false ↦ tt ]
+    by_words (name ∷ []) = one_ranged name
     by_words (name ∷ one ∷ []) = tt
     by_words (name ∷ one ∷ two ∷ []) = tt
     by_words (name ∷ one ∷ two ∷ three ∷ []) = four_ranged name one two three

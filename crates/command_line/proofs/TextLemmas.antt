@@ -14,7 +14,7 @@ use Rattle.text_lines.specs.Numerals.{is_digit, numeral_of}
 use Rattle.text_lines.specs.OptionSteps.{◌>>=◌}
 use Rattle.command_line.specs.Arguments.{begins_with_dash, is_argument}
 use Rattle.flask_sid.specs.Names.{is_lower, is_name, is_name_byte, is_name_form}
-use Rattle.command_line.specs.Commands.{command_of, four_form, generate_form, most_clients, most_lines, most_seed, number_within, path_form, serial_form}
+use Rattle.command_line.specs.Commands.{command_of, four_form, generate_form, most_clients, most_lines, most_seed, number_within, one_form, path_form}
 use Rattle.command_line.specs.declared.command.Command.{Command}
 use Rattle.command_line.specs.declared.command.PathAsked.{PathAsked}
 use Rattle.command_line.specs.declared.command.Command.TheVariants as command
@@ -131,6 +131,10 @@ serial_is : is_argument (codes "serial") ≡ true
 unfolding is_argument is_utf8 chars encode_utf8
 serial_is = refl
 
+threads_is : is_argument (codes "threads") ≡ true
+unfolding is_argument is_utf8 chars encode_utf8
+threads_is = refl
+
 generate_is : is_argument (codes "generate") ≡ true
 unfolding is_argument is_utf8 chars encode_utf8
 generate_is = refl
@@ -143,9 +147,9 @@ enter_is : is_argument (codes "enter") ≡ true
 unfolding is_argument is_utf8 chars encode_utf8
 enter_is = refl
 
-no_serial : (name : List ℕ) → is_argument name ≡ false → serial_form name ≡ None
-unfolding serial_form
-no_serial name told = rw (never_named name (codes "serial") told serial_is) refl
+no_one : (name : List ℕ) → is_argument name ≡ false → one_form name ≡ None
+unfolding one_form
+no_one name told = rw (never_named name (codes "serial") told serial_is, never_named name (codes "threads") told threads_is) refl
 
 -- what is asked where each number is there
 abbrev generated : Option ℕ → Option ℕ → Option ℕ → Option Command
@@ -246,7 +250,7 @@ and_true false told = refl
 pub no_command : (words : List (List ℕ)) → list_all is_argument words ≡ false → command_of words ≡ None
 unfolding command_of
 no_command [] told = refl
-no_command (name ∷ []) told = no_serial name (and_true (is_argument name) told)
+no_command (name ∷ []) told = no_one name (and_true (is_argument name) told)
 no_command (name ∷ one ∷ []) told = refl
 no_command (name ∷ one ∷ two ∷ []) told = refl
 no_command (name ∷ one ∷ two ∷ three ∷ []) told = no_four one two three name _ _ _ _ refl refl refl refl told

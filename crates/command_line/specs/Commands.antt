@@ -24,9 +24,12 @@ most_clients = 62
 abbrev pub most_lines : ℕ
 most_lines = 90000
 
--- `serial`, alone
-unfoldable pub serial_form : List ℕ → Option Command
-serial_form name = if bytes_eq name (codes "serial") then Some command.Serial else None
+-- a command of one word, by that word
+unfoldable pub one_form : List ℕ → Option Command
+one_form name =
+    if bytes_eq name (codes "serial") then Some command.Serial
+    else if bytes_eq name (codes "threads") then Some command.Threads
+    else None
 
 -- the words behind `generate`: SEED CLIENTS LINES
 unfoldable pub generate_form : List ℕ → List ℕ → List ℕ → Option Command
@@ -52,7 +55,7 @@ four_form name one two three =
 
 -- the command that words are: one word or four, and every other list is none
 unfoldable pub command_of : List (List ℕ) → Option Command
-command_of (name ∷ []) = serial_form name
+command_of (name ∷ []) = one_form name
 command_of (name ∷ one ∷ two ∷ three ∷ []) = four_form name one two three
 command_of _ = None
 
@@ -71,6 +74,6 @@ IsRanged other = Unit {0}
 
 -- the command whose words stand in these places, the first of them alone or all four
 unfoldable pub command_by : Option (List ℕ) → Option (List ℕ) → Option (List ℕ) → Option (List ℕ) → Option Command
-command_by (Some name) None None None = serial_form name
+command_by (Some name) None None None = one_form name
 command_by (Some name) (Some one) (Some two) (Some three) = four_form name one two three
 command_by _ _ _ _ = None

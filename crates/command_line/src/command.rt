@@ -30,6 +30,9 @@ pub struct PathAsked {
 pub enum Command {
     /// Runs the session of the source, one line after the other, and writes what it prints.
     Serial,
+    /// Runs the session of the source with a worker for each client and one for the administrator, and writes the managers'
+    /// histories.
+    Threads,
     /// Makes a session from a seed, with so many clients and run lines, each within its limits, and writes its summary.
     Generate { seed: u32, clients: u8, lines: u32 },
     /// Finds the shortest way of information between two types of the policy of the source.
@@ -53,19 +56,21 @@ pub(crate) fn command_by(
         return Ok(None);
     };
     match (one, two, three) {
-        (None, None, None) => Ok(serial_form(name)),
+        (None, None, None) => Ok(one_form(name)),
         (Some(one), Some(two), Some(three)) => four_form(alloc, name, one, two, three),
         _ => Ok(None),
     }
 }
 
-// `serial`, alone.
-#[tactic(auto, unfolding(crate::specs::Commands::serial_form))]
-fn serial_form(name: &str) -> Option<Command>
-    ensures { result ≡ Commands.serial_form name.now }
+// A command of one word, by that word.
+#[tactic(auto, unfolding(crate::specs::Commands::one_form))]
+fn one_form(name: &str) -> Option<Command>
+    ensures { result ≡ Commands.one_form name.now }
 {
     if name == "serial" {
         Some(Command::Serial)
+    } else if name == "threads" {
+        Some(Command::Threads)
     } else {
         None
     }

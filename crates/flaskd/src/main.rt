@@ -38,7 +38,7 @@ fn texts(rt: &HostRuntime) -> Result<Vec<String>, Status> {
 }
 
 /// Runs the program by these words.
-fn run<R: Threads + Wait, S: Source, K: Sink>(
+fn run<R: Threads + Wait + Sync, S: Source, K: Sink>(
     rt: &R,
     alloc: Global,
     texts: &[String],

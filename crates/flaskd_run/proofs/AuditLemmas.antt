@@ -17,7 +17,8 @@ use Rattle.session_text.specs.declared.session.Run.TheVariants as run
 use Rattle.session_desk.specs.Days.{Day}
 use Rattle.session_desk.specs.Desks.{LastAsked, asked_of}
 use Rattle.flaskd_run.specs.Serial.{asked_by, asked_in, caller_of, caller_audit, day_after, line_audit, lines_audit, audit_text}
-use Rattle.flaskd_run.specs.Underway.{IsLogged, logged_text}
+use Rattle.flaskd_run.specs.Underway.{IsLogged}
+use Rattle.run_output.specs.Logged.{logged_text}
 use Rattle.flaskd_run.specs.declared.lines.Caller.{Caller}
 
 -- a log that is as before gained nothing

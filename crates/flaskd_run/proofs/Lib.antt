@@ -1,8 +1,6 @@
-pub mod WritingLemmas
 pub mod SerialLemmas
 pub mod AuditLemmas
 pub mod TopLemmas
-pub mod PartLemmas
 pub mod PathLemmas
 pub mod OpenedLemmas
 pub mod MadePolicy

@@ -46,6 +46,7 @@ made_ends said seed clients lines before after served = by_judged served.judged 
 -- and what is served by a command that reads no input
 pub unread_ends : (said : Status) (asked : Command) (bytes : List ℕ) (before after : Option (List ℕ)) → reads_input asked ≡ false → Served said (task_of asked bytes) before after → EndsMade (Some asked) said
 unread_ends said command.Serial bytes before after reads served = tt
+unread_ends said command.Threads bytes before after reads served = tt
 unread_ends said (command.Generate seed clients lines) bytes before after reads served = made_ends said seed clients lines before after served
 unread_ends said (command.Flow asked) bytes before after reads served = tt
 unread_ends said (command.Enter asked) bytes before after reads served = tt
@@ -53,6 +54,7 @@ unread_ends said (command.Enter asked) bytes before after reads served = tt
 -- of a command that reads its input nothing is asked
 pub read_ends : (said : Status) (asked : Command) → reads_input asked ≡ true → EndsMade (Some asked) said
 read_ends said command.Serial reads = tt
+read_ends said command.Threads reads = tt
 read_ends said (command.Generate seed clients lines) reads = absurd (true≢false (sym reads))
 read_ends said (command.Flow asked) reads = tt
 read_ends said (command.Enter asked) reads = tt

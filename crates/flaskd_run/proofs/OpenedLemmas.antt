@@ -1,20 +1,26 @@
 -- A run from its openings on.
-use Rattle.std.proofs.Common.{◌≡◌, ◌+◌, ◌<◌, ℕ, Bool, true, List, [], ◌++◌, length, Option, IsTrue, refl}
+use Rattle.std.proofs.Common.{◌≡◌, ◌+◌, ◌<◌, ℕ, Bool, true, List, [], ◌++◌, length, Option, IsTrue, refl, ap, sym, ◌∙◌}
 use Rattle.std.specs.Prelude.{◌^◌, replicate}
+use Rattle.std.proofs.lemmas.List.{length-map}
 use Rattle.flask_sid.specs.declared.context.ContextOf.{ContextOf}
 use Rattle.access_vectors.specs.Decisions.{Decisions}
 use Rattle.audit_log.specs.Logs.{Gains}
 use Rattle.audit_log.specs.declared.audited.AuditLine.{AuditLine}
 use Rattle.policy_model.specs.declared.policy.PolicyParts.{PolicyParts}
 use Rattle.session_text.specs.Sessions.{IsSession, IsSidOf}
+use Rattle.session_text.proofs.SessionLemmas.{few_clients}
 use Rattle.session_text.specs.declared.session.ClientLine.{ClientLine}
 use Rattle.session_text.specs.declared.session.RunLine.{RunLine}
 use Rattle.session_text.specs.declared.session.SessionParts.{SessionParts}
 use Rattle.session_desk.specs.Days.{Day, morning_of}
-use Rattle.session_desk.specs.Desks.{Standing, none_asked, no_events}
+use Rattle.session_desk.specs.Desks.{Standing, none_asked, no_events, AreOpenings}
 use Rattle.session_desk.specs.declared.opening.Openings.{Openings}
+use Rattle.threaded_session.specs.Plans as plans
+use Rattle.threaded_session.specs.Plans.{IsPlanOf}
+use Rattle.threaded_session.specs.declared.plan.Plan.{Plan}
 use Rattle.flaskd_run.specs.Serial.{openings_of, lines_text, lines_audit, day_below, summary_of, run_text, text_on, summary_on}
-use Rattle.flaskd_run.specs.Underway.{MayRun, logged_text}
+use Rattle.flaskd_run.specs.Underway.{MayRun}
+use Rattle.run_output.specs.Logged.{logged_text}
 use Rattle.flaskd_run.proofs.AuditLemmas.{logged_as}
 use Rattle.flaskd_run.proofs.SerialLemmas.{session_may}
 
@@ -58,3 +64,25 @@ pub sum_is : (d : Decisions) (session : SessionParts) (openings : Openings) (ite
     → summary_of (day_below d (morning_of openings) items) ≡ summary_on d session
 unfolding summary_on
 sum_is d session openings items openings_is items_is = rw (openings_is, items_is) refl
+
+-- a plan of a session's parts may be run
+pub plan_may : (d : Decisions) (session : SessionParts) (plan : Plan) → plan.openings ≡ openings_of session → plan.clients ≡ length session.clients → plan.lines.items ≡ session.lines
+    → IsSession session → AreOpenings d (openings_of session) → length session.lines < 2 ^ 64 → ((sid : ℕ) → IsSidOf session.policy.contexts sid → IsTrue (d.known sid)) → plans.MayRun d plan
+plan_may d session plan openings_is clients_is lines_is is openings few known = record {
+  openings = rw openings_is openings;
+  of_files = ap (λ (o : Openings). length o.files.clients) openings_is ∙ length-map session.clients (λ (client : ClientLine). client.sid) ∙ sym clients_is;
+  of_processes = ap (λ (o : Openings). length o.processes.clients) openings_is ∙ length-map session.clients (λ (client : ClientLine). client.sid) ∙ sym clients_is;
+  of_ports = ap (λ (o : Openings). length o.ports.clients) openings_is ∙ length-map session.clients (λ (client : ClientLine). client.sid) ∙ sym clients_is;
+  few = rw clients_is (few_clients session is);
+  formed = rw (clients_is, lines_is) (session_may session d is few known).formed;
+}
+
+-- it is the plan of the session
+pub plan_of : (session : SessionParts) (plan : Plan) → plan.openings ≡ openings_of session → plan.clients ≡ length session.clients → plan.lines.items ≡ session.lines → IsPlanOf session plan
+plan_of session plan openings_is clients_is lines_is = record {
+  files_are = ap (λ (o : Openings). o.files) openings_is;
+  processes_are = ap (λ (o : Openings). o.processes) openings_is;
+  ports_are = ap (λ (o : Openings). o.ports) openings_is;
+  clients_are = clients_is;
+  lines_are = lines_is;
+}

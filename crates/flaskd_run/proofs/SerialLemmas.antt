@@ -43,10 +43,10 @@ use Rattle.policy_model.specs.declared.policy.PolicyParts.{PolicyParts}
 use Rattle.policy_versions.specs.Closure.{AreContexts, declared_contexts}
 use Rattle.policy_versions.specs.Judging.{decisions_of}
 use Rattle.flask_sid.specs.declared.context.ContextOf.{ContextOf}
-use Rattle.flaskd_run.specs.Writing.{IsOffered, AddsFront}
-use Rattle.flaskd_run.specs.declared.stop.RunStop.{RunStop}
-use Rattle.flaskd_run.specs.declared.stop.RunStop.TheVariants as run_stop
-use Rattle.flaskd_run.proofs.WritingLemmas.{written_more, front_of_part, adds_more}
+use Rattle.run_output.specs.Writing.{IsOffered, AddsFront}
+use Rattle.run_output.specs.declared.stop.RunStop.{RunStop}
+use Rattle.run_output.specs.declared.stop.RunStop.TheVariants as run_stop
+use Rattle.run_output.proofs.WritingLemmas.{written_more, front_of_part, adds_more}
 
 -- a line ran and was written
 pub line_written : (contexts : List (ContextOf (List ℕ))) (d d' : Decisions) (clients : List ClientLine) (day day' : Day) (line : RunLine) (rest items : List RunLine) (before now later : Option (List ℕ)) (whole out : List ℕ) → IsOffered before now whole (lines_text contexts d clients day items) → items ≡ line ∷ rest → d' ≡ d → out ≡ line_text contexts d' clients day line.line line.run → day' ≡ day_after d' day line.run → Adds now later out → IsOffered before later whole (lines_text contexts d clients day' rest)
@@ -59,19 +59,6 @@ pub line_failed : (contexts : List (ContextOf (List ℕ))) (d d' : Decisions) (c
 line_failed contexts d d' clients day line rest items before now later whole out offered items_is same text added =
     let here = rw items_is at offered in
     front_of_part before now later whole (line_text contexts d clients day line.line line.run) _ here (rw (text, same) at added)
-
--- an outcome of which one fact gives another
-pub on_ok : {T E : Type 0} (result : Result T E) (P Q : Type 0) → (P → Q) → OnOk result P → OnOk result Q
-on_ok (Ok x) P Q f h = f h
-on_ok (Err e) P Q f h = h
-
-pub on_err : {T E : Type 0} (result : Result T E) (P Q : Type 0) → (P → Q) → OnErr result P → OnErr result Q
-on_err (Ok x) P Q f h = h
-on_err (Err e) P Q f h = f h
-
-pub on_err_always : {T E : Type 0} (result : Result T E) (P : Type 0) → P → OnErr result P
-on_err_always (Ok x) P h = tt
-on_err_always (Err e) P h = h
 
 -- what holds of each line holds of the lines behind the first
 pub all_behind : {X : Type 0} (P : X → Type 0) (items rest : List X) (x : X) → items ≡ x ∷ rest → All P items → All P rest
@@ -214,19 +201,6 @@ process_formed d state clients client said same (below, ranges, declared) =
 
 pub port_formed : (d : Decisions) (state : PortState) (clients client : ℕ) (said : PortCall) → length state.opening.clients ≡ clients → IsRun (λ sid. IsTrue (d.known sid)) clients (run.Port client said) → port.IsFormed d state client said
 port_formed d state clients client said same (below, ranges) = record { caller_is = omega arith; ranges = ranges }
-
--- a line was written whole, with which all is
-pub all_written : (before now later : Option (List ℕ)) (whole part : List ℕ) → IsOffered before now whole part → Adds now later part → Adds before later whole
-all_written before now later whole part offered added = rw offered.1 (adds_more before now later offered.0 part offered.2 added)
-
--- of the last line a front was written
-pub last_failed : (before now later : Option (List ℕ)) (whole part : List ℕ) → IsOffered before now whole part → AddsFront now later part → AddsFront before later whole
-last_failed before now later whole part offered added = (
-  offered.0 ++ added.0,
-  added.1,
-  offered.1 ∙ ap (λ p. offered.0 ++ p) added.2 ∙ sym (append_assoc offered.0 added.0 added.1),
-  adds_more before now later offered.0 added.0 offered.2 added.3,
-)
 
 -- the managers of a session's openings have its clients
 opened_clients : (session : SessionParts) → HasClients (length session.clients) (morning session)

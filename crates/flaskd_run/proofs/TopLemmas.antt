@@ -1,5 +1,5 @@
 -- How a run goes, by where it ends.
-use Rattle.std.proofs.Common.{◌≡◌, ◌≤◌, ◌&&◌, ℕ, Bool, true, false, true≢false, List, [], length, Option, None, Some, Result, Ok, Err, refl, sym, ◌∙◌, ap, append-nil, inl, inr, arith}
+use Rattle.std.proofs.Common.{◌≡◌, ◌≤◌, ◌&&◌, ℕ, Bool, true, false, true≢false, List, [], length, Option, None, Some, Result, Ok, Err, refl, sym, ◌∙◌, ap, append-nil, inl, inr, arith, subst}
 use Rattle.std.specs.Prelude.{◌⊎◌, OnOk, OnErr}
 use Rattle.flask_io.specs.Streams.{Takes, Adds}
 use Rattle.text_lines.specs.ResultSteps.{LineFault}
@@ -16,18 +16,20 @@ use Rattle.flow_query.specs.declared.route.Kind.{Kind}
 use Rattle.command_line.specs.declared.command.Command.{Command}
 use Rattle.command_line.specs.declared.command.Command.TheVariants as command
 use Rattle.command_line.specs.declared.command.PathAsked.{PathAsked}
-use Rattle.flaskd_run.specs.Writing.{AddsFront}
+use Rattle.run_output.specs.Writing.{AddsFront}
 use Rattle.flaskd_run.specs.Reading.{IsEnd}
 use Rattle.flaskd_run.specs.Serial.{text_on, summary_on}
 use Rattle.flaskd_run.specs.Paths.{IsFound, found_text}
+use Rattle.flaskd_run.specs.Threads.{HasEnded, text_of}
+use Rattle.flaskd_run.specs.declared.threads.Ended.{Ended}
 use Rattle.flaskd_run.specs.Tasks.{reads_input, task_of, policy_in, IsText, Writes, WritesAll, WritesFront}
 use Rattle.flaskd_run.specs.Top.{reads_source, is_large, is_too_large, status_of, expected_of, Answers, IsTaskText, IsPrinted, IsPrintedUnless, IsAnswerOf, IsJudgedOf, IsJudgedFor, IsWhole, IsRead, Puts, PutsWhole, Ran, Serves, Served, IsRefused}
 use Rattle.flaskd_run.proofs.PathLemmas.{only_found}
 use Rattle.flaskd_run.specs.declared.paths.PathAnswer.{PathAnswer}
 use Rattle.flaskd_run.specs.declared.status.Status.{Status}
 use Rattle.flaskd_run.specs.declared.status.Status.TheVariants as status
-use Rattle.flaskd_run.specs.declared.stop.RunStop.{RunStop}
-use Rattle.flaskd_run.specs.declared.stop.RunStop.TheVariants as run_stop
+use Rattle.run_output.specs.declared.stop.RunStop.{RunStop}
+use Rattle.run_output.specs.declared.stop.RunStop.TheVariants as run_stop
 use Rattle.flaskd_run.specs.declared.task.Task.{Task}
 use Rattle.flaskd_run.specs.declared.task.Task.TheVariants as task
 
@@ -242,6 +244,23 @@ of_text (Err run_stop.Memory) asked contexts put now text is ok err = inr (recor
 pub serial_writes : {A : Type 0} (result : Result A RunStop) (session parts : SessionParts) (contexts : List (ContextOf (List ℕ))) (d : Decisions) (put now : Option (List ℕ)) → parts ≡ session → d ≡ decisions_of session.policy contexts → OnOk result (Adds put now (text_on contexts d parts)) → OnErr result (AddsFront put now (text_on contexts d parts)) → Writes result (task.Serial session) contexts put now
 serial_writes result session parts contexts d put now same decides ok err =
     of_text result (task.Serial session) contexts put now (text_on contexts d parts) (rw (same, decides) refl) ok err
+
+-- what holds of three values holds of their equals
+pub of_three : {A B C : Type 0} (P : A → B → C → Type 0) (a a' : A) (b b' : B) (c c' : C) → a ≡ a' → b ≡ b' → c ≡ c' → P a b c → P a' b' c'
+of_three P a a' b b' c c' first second third holds = subst (λ x. P x b' c') first (subst (λ y. P a y c') second (subst (λ z. P a b z) third holds))
+
+-- the histories of a threaded run of it
+pub threads_writes : {A D : Type 0} (result : Result A RunStop) (session parts : SessionParts) (contexts : List (ContextOf (List ℕ))) (d : Decisions) (ended : Ended D) (put now : Option (List ℕ)) → parts ≡ session → d ≡ decisions_of session.policy contexts → HasEnded d parts ended
+    → OnOk result (Adds put now (text_of contexts parts ended)) → OnErr result (AddsFront put now (text_of contexts parts ended)) → Writes result (task.Threads session) contexts put now
+threads_writes result session parts contexts d ended put now same decides has ok err =
+    of_text result (task.Threads session) contexts put now (text_of contexts parts ended)
+    (record {
+      files = ended.closed.files.history;
+      processes = ended.closed.processes.history;
+      ports = ended.closed.ports.history;
+      of_run = rw (same, decides) at has.of_run;
+      text_is = ap (λ (s : SessionParts). text_of contexts s ended) same;
+    }) ok err
 
 -- its summary alone
 pub summary_writes : {A : Type 0} (result : Result A RunStop) (session parts : SessionParts) (contexts : List (ContextOf (List ℕ))) (d : Decisions) (put now : Option (List ℕ)) → parts ≡ session → d ≡ decisions_of session.policy contexts → OnOk result (Adds put now (summary_on d parts)) → OnErr result (AddsFront put now (summary_on d parts)) → Writes result (task.Summary session) contexts put now

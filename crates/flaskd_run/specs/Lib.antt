@@ -1,9 +1,9 @@
 pub mod Reading
-pub mod Writing
 pub mod Texts
 pub mod Lines
 pub mod Serial
 pub mod Underway
 pub mod Paths
+pub mod Threads
 pub mod Tasks
 pub mod Top

@@ -9,7 +9,7 @@ use Rattle.policy_versions.specs.declared.compiling.CompileFault.{CompileFault}
 use Rattle.policy_versions.specs.declared.compiling.CompileFault.TheVariants.{TooManyContexts, Neverallow, Memory}
 use Rattle.policy_versions.specs.declared.broken.Break.{Break}
 use Rattle.flaskd_run.specs.Reading.{IsEnd}
-use Rattle.flaskd_run.specs.Writing.{AddsFront}
+use Rattle.run_output.specs.Writing.{AddsFront}
 use Rattle.flaskd_run.specs.Tasks.{reads_input, task_of, policy_in, IsText}
 use Rattle.command_line.specs.declared.command.Command.{Command}
 use Rattle.command_line.specs.declared.command.Command.TheVariants as command

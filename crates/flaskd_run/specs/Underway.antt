@@ -1,13 +1,9 @@
 -- A run on its way, and the log of its audit lines.
-use Rattle.std.specs.Prelude.{◌≡◌, ℕ, ◌+◌, ◌<◌, ◌^◌, IsTrue, List, [], ◌∷◌, ◌++◌, length, All}
-use Rattle.std.specs.List.{flat_map}
-use Rattle.flask_sid.specs.declared.context.ContextOf.{ContextOf}
+use Rattle.std.specs.Prelude.{◌≡◌, ℕ, ◌+◌, ◌<◌, ◌^◌, IsTrue, List, ◌++◌, length, All}
 use Rattle.access_vectors.specs.Decisions.{Decisions}
-use Rattle.audit_log.specs.Logs.{of_client, Gains}
-use Rattle.audit_log.specs.Texts.{line_text as audit_line_text}
+use Rattle.audit_log.specs.Logs.{Gains}
 use Rattle.audit_log.specs.declared.audited.AuditLine.{AuditLine}
 use Rattle.session_text.specs.Sessions.{IsRun}
-use Rattle.session_text.specs.declared.session.ClientLine.{ClientLine}
 use Rattle.session_text.specs.declared.session.RunLine.{RunLine}
 use Rattle.session_desk.specs.Days.{Day}
 use Rattle.session_desk.specs.Desks.{HasClients}
@@ -29,8 +25,3 @@ pub record IsLeft (d : Decisions) (clients : ℕ) (start day : Day) (all left : 
 -- a log has gained a front of these audit lines, and the rest is still to come
 abbrev pub IsLogged : List (List AuditLine) → List (List AuditLine) → List AuditLine → List AuditLine → Type 0
 IsLogged old new all rest = (front : List AuditLine) × (front ++ rest ≡ all) × Gains old new front
-
--- what is printed of a log for clients from number n on
-abbrev pub logged_text : List (ContextOf (List ℕ)) → List (List AuditLine) → ℕ → List ClientLine → List ℕ
-logged_text contexts log n [] = []
-logged_text contexts log n (client ∷ clients) = flat_map (audit_line_text contexts client.name) (of_client log n) ++ logged_text contexts log (n + 1) clients

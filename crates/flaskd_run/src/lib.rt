@@ -2,7 +2,6 @@
 #![tactic(auto)]
 
 mod answers;
-mod auditing;
 mod lines;
 mod path_texts;
 mod paths;
@@ -11,15 +10,13 @@ mod running;
 mod said;
 mod serial;
 mod status;
-mod stop;
-mod stops;
 mod task;
 mod texts;
+mod threads;
 mod top;
-mod writing;
 
 pub use reading::INPUT_LIMIT;
+pub use run_stops::{NoStops, Stops};
 pub use said::status_text;
 pub use status::Status;
-pub use stops::{NoStops, Stops};
 pub use top::flaskd;

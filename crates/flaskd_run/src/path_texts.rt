@@ -5,16 +5,16 @@ ghost use Rattle.std.specs.List.{flat_map};
 ghost use Rattle.flask_io.specs.Streams.{Adds, HasCause};
 ghost use Rattle.policy_versions.specs.Places.{kind_at};
 ghost use Rattle.flaskd_run.specs.Paths;
-ghost use Rattle.flaskd_run.specs.Writing.{AddsFront};
-ghost use Rattle.flaskd_run.specs.declared.stop.RunStop.{RunStop};
+ghost use Rattle.run_output.specs.Writing.{AddsFront};
+ghost use Rattle.run_output.specs.declared.stop.RunStop.{RunStop};
 
 use crate::paths::PathAnswer;
-use crate::stop::{RunStop, put_line};
 use crate::texts::put_perm;
 use flask_io::Sink;
 use flask_sid::{Memory, Piece};
 use flow_query::Hop;
 use policy_model::PolicyParts;
+use run_output::{RunStop, put_line};
 use std::alloc::Global;
 use text_lines::put_number;
 

@@ -7,32 +7,20 @@ ghost use Rattle.session_desk.specs.Desks.{HasClients, IsSameOpening};
 ghost use Rattle.session_text.specs.Sessions.{IsRun};
 ghost use Rattle.flaskd_run.specs.Serial;
 ghost use Rattle.flaskd_run.specs.Underway.{MayRun};
-ghost use Rattle.flaskd_run.specs.Writing.{AddsFront};
-ghost use Rattle.flaskd_run.specs.declared.stop.RunStop.{RunStop};
+ghost use Rattle.run_output.specs.Writing.{AddsFront};
+ghost use Rattle.run_output.specs.declared.stop.RunStop.{RunStop};
 
 use crate::answers::put_answer;
 use crate::lines::{act, caller_of};
-use crate::stop::{RunStop, put_line};
 use access_vectors::Decider;
 use audit_log::AuditLog;
 use flask_io::Sink;
-use flask_sid::{Memory, Piece, SidTable};
-use policy_model::PolicyParts;
+use flask_sid::{Memory, Piece};
+use run_output::{RunStop, Setting, put_line};
 use session_desk::Desk;
-use session_text::{ClientLine, RunLine};
+use session_text::RunLine;
 use std::alloc::Global;
 use std::sync::Wait;
-
-/// What a run knows of its session besides its lines.
-#[derive(Drop)]
-pub struct Setting<'a> {
-    pub policy: &'a PolicyParts,
-    /// The contexts of the policy's identifiers.
-    pub contexts: &'a SidTable,
-    pub clients: &'a [ClientLine],
-    /// Whether audit lines are printed.
-    pub audited: bool,
-}
 
 /// Does what a line asks, and puts what it prints.
 fn act_and_put<R: Wait, D: Decider>(

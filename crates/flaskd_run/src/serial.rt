@@ -8,12 +8,10 @@ ghost use Rattle.session_text.specs.Sessions.{IsSession, IsSidOf};
 ghost use Rattle.session_text.specs.declared.session.ClientLine.{ClientLine};
 ghost use Rattle.flaskd_run.specs.Serial;
 ghost use Rattle.flaskd_run.specs.Underway.{MayRun};
-ghost use Rattle.flaskd_run.specs.Writing.{AddsFront};
-ghost use Rattle.flaskd_run.specs.declared.stop.RunStop.{RunStop};
+ghost use Rattle.run_output.specs.Writing.{AddsFront};
+ghost use Rattle.run_output.specs.declared.stop.RunStop.{RunStop};
 
-use crate::auditing::write_audit;
-use crate::running::{Setting, run_lines, run_quietly};
-use crate::stop::{RunStop, put_line};
+use crate::running::{run_lines, run_quietly};
 use crate::texts::put_summary;
 use access_vectors::Decider;
 use audit_log::AuditLog;
@@ -22,13 +20,14 @@ use flask_io::Sink;
 use flask_sid::{Memory, Piece, Rows, Sid, SidTable};
 use port_calls::{LabelledPort, PortOpening};
 use process_calls::ProcessOpening;
+use run_output::{RunStop, Setting, put_line, write_audit};
 use session_desk::{Desk, Openings};
 use session_text::{ClientLine, RunLine, SessionParts};
 use std::alloc::Global;
 use std::sync::Wait;
 
 /// What the managers are opened with: a client acts as its context, and the root and ports without a line have theirs.
-fn openings_of(
+pub(crate) fn openings_of(
     alloc: Global,
     root: Sid,
     nodes: Rows<Node>,

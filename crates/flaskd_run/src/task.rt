@@ -22,6 +22,8 @@ use text_lines::TextFault;
 pub enum Task {
     /// Runs a session, and writes all that its lines say.
     Serial(Session),
+    /// Runs a session with a worker for each client and one for the administrator, and writes the managers' histories.
+    Threads(Session),
     /// Runs a session, and writes its summary alone.
     Summary(Session),
     /// Finds the shortest path between two types of a policy.
@@ -39,6 +41,7 @@ impl Task {
     {
         match self {
             Task::Serial(session) => &session.parts().policy,
+            Task::Threads(session) => &session.parts().policy,
             Task::Summary(session) => &session.parts().policy,
             Task::Path { policy, .. } => policy,
         }
@@ -60,6 +63,10 @@ pub fn task_of(alloc: Global, asked: Command, bytes: &[u8]) -> Result<Task, Text
     match asked {
         Command::Serial => match session_text::read(alloc, bytes) {
             Ok(session) => Ok(Task::Serial(session)),
+            Err(fault) => Err(fault),
+        },
+        Command::Threads => match session_text::read(alloc, bytes) {
+            Ok(session) => Ok(Task::Threads(session)),
             Err(fault) => Err(fault),
         },
         Command::Generate {

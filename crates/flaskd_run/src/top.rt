@@ -8,7 +8,7 @@ ghost use Rattle.policy_versions.specs.Places.{kind_at};
 ghost use Rattle.flaskd_run.specs.Tasks;
 ghost use Rattle.flaskd_run.specs.Top;
 ghost use Rattle.flaskd_run.specs.declared.status.Status.{Status};
-ghost use Rattle.flaskd_run.specs.declared.stop.RunStop.{RunStop};
+ghost use Rattle.run_output.specs.declared.stop.RunStop.{RunStop};
 ghost use Rattle.flaskd_run.specs.declared.task.Task.TheVariants as task;
 
 use crate::path_texts::write_found;
@@ -16,9 +16,8 @@ use crate::paths::find;
 use crate::reading::{INPUT_LIMIT, ReadStop, read_all};
 use crate::serial::{serial, summary};
 use crate::status::Status;
-use crate::stop::RunStop;
-use crate::stops::Stops;
 use crate::task::{Task, reads_input, task_of};
+use crate::threads::{run_to_end, write_ended};
 use access_vectors::Perm;
 use command_line::{Command, PathAsked};
 use flask_io::{Sink, Source};
@@ -26,6 +25,8 @@ use flask_sid::{Memory, Name, Word};
 use flow_query::Kind;
 use policy_model::{PolicyParts, PolicyText};
 use policy_versions::{Catalogue, CompileFault, compile};
+use run_output::RunStop;
+use run_stops::Stops;
 use session_text::Session;
 use std::alloc::Global;
 use std::sync::Wait;
@@ -34,13 +35,13 @@ use text_lines::TextFault;
 
 /// Runs the program by the words of its command, the program's own name not among them: reads the source or makes a session, does
 /// what the command asks with it, and writes what that prints to the sink.
-pub fn flaskd<R: Threads + Wait, S: Source, K: Sink, G: Stops>(
+pub fn flaskd<R: Threads + Wait + Sync, S: Source, K: Sink, G: Stops + Sync>(
     rt: &R,
     alloc: Global,
     words: &[Word<'_>],
     source: &mut S,
     sink: &mut K,
-    _stops: &G,
+    stops: &G,
 ) -> Status
     // Only where the words are no command, and then nothing else is answered but want of memory.
     ensures usage { result ≡ Status.Usage → command_of words.now ≡ None }
@@ -67,18 +68,19 @@ pub fn flaskd<R: Threads + Wait, S: Source, K: Sink, G: Stops>(
         return Status::Usage;
     };
     if reads_input(&asked) {
-        read_and_serve(rt, alloc, asked, source, sink)
+        read_and_serve(rt, alloc, asked, source, stops, sink)
     } else {
-        serve(rt, alloc, asked, &[], sink)
+        serve(rt, alloc, asked, &[], stops, sink)
     }
 }
 
 /// Reads the source to its end, and does what a command asks with its bytes.
-fn read_and_serve<R: Wait, S: Source, K: Sink>(
+fn read_and_serve<R: Threads + Wait + Sync, S: Source, K: Sink, G: Stops + Sync>(
     rt: &R,
     alloc: Global,
     asked: Command,
     source: &mut S,
+    stops: &G,
     sink: &mut K,
 ) -> Status
     requires reads { Tasks.reads_input asked ≡ true }
@@ -97,17 +99,18 @@ fn read_and_serve<R: Wait, S: Source, K: Sink>(
             if bytes.len() > INPUT_LIMIT {
                 return Status::TooLarge;
             }
-            serve(rt, alloc, asked, bytes.as_slice(), sink)
+            serve(rt, alloc, asked, bytes.as_slice(), stops, sink)
         }
     }
 }
 
 /// Does what a command asks, with these bytes where it reads them.
-fn serve<R: Wait, K: Sink>(
+fn serve<R: Threads + Wait + Sync, K: Sink, G: Stops + Sync>(
     rt: &R,
     alloc: Global,
     asked: Command,
     bytes: &[u8],
+    stops: &G,
     sink: &mut K,
 ) -> Status
     requires { IsRanged asked }
@@ -119,12 +122,18 @@ fn serve<R: Wait, K: Sink>(
     match task_of(alloc, asked, bytes) {
         Err(TextFault::Memory) => Status::Memory,
         Err(TextFault::Text { line, kind }) => Status::BadText { line, kind },
-        Ok(task) => run(rt, alloc, task, sink),
+        Ok(task) => run(rt, alloc, task, stops, sink),
     }
 }
 
 /// Compiles a task's policy, does the task and writes what it prints.
-fn run<R: Wait, K: Sink>(rt: &R, alloc: Global, task: Task, sink: &mut K) -> Status
+fn run<R: Threads + Wait + Sync, K: Sink, G: Stops + Sync>(
+    rt: &R,
+    alloc: Global,
+    task: Task,
+    stops: &G,
+    sink: &mut K,
+) -> Status
     ensures served { Top.Served result (Ok task) (K.written sink.old) (K.written sink.new) }
     ensures command { result ≡ Status.Usage → ⊥ }
     ensures silent { Top.IsSilent result → sink.new ≡ sink.old }
@@ -132,7 +141,7 @@ fn run<R: Wait, K: Sink>(rt: &R, alloc: Global, task: Task, sink: &mut K) -> Sta
 {
     match compile(alloc, task.policy()) {
         Err(fault) => refused(alloc, task.policy().parts(), fault),
-        Ok(catalogue) => match write(rt, alloc, task, &catalogue, sink) {
+        Ok(catalogue) => match write(rt, alloc, task, &catalogue, stops, sink) {
             Ok(()) => Status::Ok,
             Err(RunStop::WriteFault) => Status::WriteFault,
             Err(RunStop::Memory) => Status::Memory,
@@ -141,11 +150,12 @@ fn run<R: Wait, K: Sink>(rt: &R, alloc: Global, task: Task, sink: &mut K) -> Sta
 }
 
 /// Does a task whose policy is compiled, and writes what it prints.
-fn write<R: Wait, K: Sink>(
+fn write<R: Threads + Wait + Sync, K: Sink, G: Stops + Sync>(
     rt: &R,
     alloc: Global,
     task: Task,
     catalogue: &Catalogue,
+    stops: &G,
     sink: &mut K,
 ) -> Result<(), RunStop>
     requires { IsCatalogueOf (Tasks.policy_in task) catalogue.now }
@@ -154,6 +164,7 @@ fn write<R: Wait, K: Sink>(
 {
     match task {
         Task::Serial(session) => run_session(rt, alloc, session, catalogue, sink),
+        Task::Threads(session) => run_threads(rt, alloc, session, catalogue, stops, sink),
         Task::Summary(session) => sum_session(rt, alloc, session, catalogue, sink),
         Task::Path {
             policy,
@@ -183,6 +194,24 @@ fn run_session<R: Wait, K: Sink>(
         catalogue.sids(),
         sink,
     )
+}
+
+/// Runs a session whose policy is compiled with a worker for each client and one for the administrator, and writes the managers'
+/// histories.
+fn run_threads<R: Threads + Wait + Sync, K: Sink, G: Stops + Sync>(
+    rt: &R,
+    alloc: Global,
+    session: Session,
+    catalogue: &Catalogue,
+    stops: &G,
+    sink: &mut K,
+) -> Result<(), RunStop>
+    requires { IsCatalogueOf session.policy catalogue.now }
+    ensures writes { Tasks.Writes result (task.Threads session) (sids_of catalogue.now) (K.written sink.old) (K.written sink.new) }
+    ensures cause { HasCause (K.faults sink.old) (K.faults sink.new) (result ≡ Err RunStop.WriteFault) }
+{
+    let ended = run_to_end(rt, alloc, session.into_parts(), catalogue, stops)?;
+    write_ended(alloc, &ended, catalogue.sids(), sink)
 }
 
 /// Runs a session whose policy is compiled, and writes its summary alone.

@@ -3,4 +3,6 @@
 #![tactic(auto)]
 
 #[cfg(test)]
+mod orders;
+#[cfg(test)]
 mod tests;

@@ -73,7 +73,7 @@ impl Sink for Sips {
 }
 
 /// Runs the smallest session between ends of which the reads and the writes of these numbers, from 1, fail.
-fn run<'a, R: Threads + Wait>(
+fn run<'a, R: Threads + Wait + Sync>(
     rt: &R,
     alloc: Global,
     reads: &[u64],

@@ -1,8 +1,8 @@
 use Rattle.std.proofs.Common.{◌≡◌, arith}
 use Rattle.flaskd_run.specs.Paths.{hop_text}
-use Rattle.flaskd_run.proofs.PartLemmas.{part_more, list_front, list_cut}
-use Rattle.flaskd_run.proofs.SerialLemmas.{on_err_always}
-use Rattle.flaskd_run.proofs.WritingLemmas.{adds_more}
+use Rattle.run_output.proofs.PartLemmas.{part_more, list_front, list_cut}
+use Rattle.run_output.proofs.Outcomes.{on_err_always}
+use Rattle.run_output.proofs.WritingLemmas.{adds_more}
 use Rattle.flaskd_run.proofs.path_texts.write_hops.Goals as goal
 
 pub returns-in_err-put_hop-clause-err : goal.returns-in_err-put_hop-clause-err

@@ -3,8 +3,8 @@ use Rattle.std.specs.Prelude.{decimal}
 use Rattle.std.specs.List.{flat_map}
 use Rattle.std.proofs.lemmas.Result.{IfErr-weaker}
 use Rattle.flaskd_run.specs.Paths.{hop_text}
-use Rattle.flaskd_run.proofs.PartLemmas.{cut_first, cut_last}
-use Rattle.flaskd_run.proofs.SerialLemmas.{on_err_always}
+use Rattle.run_output.proofs.PartLemmas.{cut_first, cut_last}
+use Rattle.run_output.proofs.Outcomes.{on_err_always}
 use Rattle.flaskd_run.proofs.path_texts.write_path.Goals as goal
 
 pub returns-in_err-put_line-clause-err : goal.returns-in_err-put_line-clause-err

@@ -4,8 +4,9 @@ use Rattle.session_text.specs.Sessions.{IsRun}
 use Rattle.session_text.specs.declared.session.RunLine.{RunLine}
 use Rattle.flaskd_run.specs.Serial.{lines_text, lines_audit}
 use Rattle.flaskd_run.proofs.AuditLemmas.{logged_line, logged_all, logged_start}
-use Rattle.flaskd_run.proofs.SerialLemmas.{line_written, line_failed, all_first, no_items, room_for_one, all_left, left_more, none_left, offered_all, on_err_always}
-use Rattle.flaskd_run.proofs.WritingLemmas.{nothing_written}
+use Rattle.flaskd_run.proofs.SerialLemmas.{line_written, line_failed, all_first, no_items, room_for_one, all_left, left_more, none_left, offered_all}
+use Rattle.run_output.proofs.Outcomes.{on_err_always}
+use Rattle.run_output.proofs.WritingLemmas.{nothing_written}
 use Rattle.flaskd_run.proofs.running.run_lines.Goals as goal
 
 pub run_audited-requires-clause-formed : goal.run_audited-requires-clause-formed

@@ -2,7 +2,7 @@ use Rattle.std.proofs.Common.{◌≡◌, ◌≤◌, true, length}
 use Rattle.std.specs.Vec.Iter.{into_iter_items, into_iter_len}
 use Rattle.flaskd_run.specs.Serial.{lines_text, lines_audit}
 use Rattle.flaskd_run.specs.Underway.{IsLeft, IsLogged}
-use Rattle.flaskd_run.specs.Writing.{IsOffered}
+use Rattle.run_output.specs.Writing.{IsOffered}
 use Rattle.flaskd_run.proofs.running.run_lines.Given as goal
 
 abbrev pub invariant-lines : goal.invariant-lines

@@ -1,5 +1,5 @@
-use Rattle.flaskd_run.proofs.SerialLemmas.{on_err_always}
-use Rattle.flaskd_run.proofs.WritingLemmas.{front_so_far, nothing_written}
+use Rattle.run_output.proofs.Outcomes.{on_err_always}
+use Rattle.run_output.proofs.WritingLemmas.{front_so_far, nothing_written}
 use Rattle.flaskd_run.proofs.serial.run_logged.Goals as goal
 
 pub returns-in_err-log-clause-err : goal.returns-in_err-log-clause-err

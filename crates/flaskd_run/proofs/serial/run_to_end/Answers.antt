@@ -1,10 +1,10 @@
 use Rattle.std.proofs.Common.{length}
 use Rattle.flaskd_run.specs.Serial.{lines_text, summary_of, run_text}
-use Rattle.flaskd_run.specs.Underway.{logged_text}
-use Rattle.flaskd_run.specs.Writing.{AddsFront}
+use Rattle.run_output.specs.Logged.{logged_text}
+use Rattle.run_output.specs.Writing.{AddsFront}
 use Rattle.flaskd_run.proofs.OpenedLemmas.{run_parts}
-use Rattle.flaskd_run.proofs.PartLemmas.{cut_first, cut_second, cut_third, all_three}
-use Rattle.flaskd_run.proofs.SerialLemmas.{on_ok, on_err, on_err_always}
+use Rattle.run_output.proofs.PartLemmas.{cut_first, cut_second, cut_third, all_three}
+use Rattle.run_output.proofs.Outcomes.{on_ok, on_err, on_err_always}
 use Rattle.flaskd_run.proofs.serial.run_to_end.Goals as goal
 
 pub returns-in_err-run_lines-clause-err : goal.returns-in_err-run_lines-clause-err

@@ -1,6 +1,7 @@
 use Rattle.std.proofs.Common.{arith}
-use Rattle.flaskd_run.proofs.SerialLemmas.{on_err_always, no_write_fault}
-use Rattle.flaskd_run.proofs.WritingLemmas.{front_so_far, nothing_written}
+use Rattle.flaskd_run.proofs.SerialLemmas.{no_write_fault}
+use Rattle.run_output.proofs.Outcomes.{on_err_always}
+use Rattle.run_output.proofs.WritingLemmas.{front_so_far, nothing_written}
 use Rattle.flaskd_run.proofs.serial.sum_to_end.Goals as goal
 
 pub returns-in_err-run_quietly-clause-err : goal.returns-in_err-run_quietly-clause-err

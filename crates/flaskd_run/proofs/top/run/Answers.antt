@@ -2,8 +2,8 @@ use Rattle.std.proofs.Common.{◌≡◌, Err, refl, subst}
 use Rattle.policy_model.specs.declared.policy.PolicyParts.{PolicyParts}
 use Rattle.policy_versions.specs.Compiling.{IsAnswer, sids_of}
 use Rattle.flaskd_run.specs.Tasks.{policy_in, Writes}
-use Rattle.flaskd_run.specs.declared.stop.RunStop.{RunStop}
-use Rattle.flaskd_run.specs.declared.stop.RunStop.TheVariants as run_stop
+use Rattle.run_output.specs.declared.stop.RunStop.{RunStop}
+use Rattle.run_output.specs.declared.stop.RunStop.TheVariants as run_stop
 use Rattle.flaskd_run.proofs.TopLemmas.{refused_policy, ok_served, failed_served, cut_served}
 use Rattle.flaskd_run.proofs.top.run.Goals as goal
 

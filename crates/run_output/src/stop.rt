@@ -1,0 +1,40 @@
+//! How a run stops, and the lines that it writes.
+
+ghost use Rattle.std.specs.Prelude.{◌≡◌, Err, IfErr, OnOk, OnErr};
+ghost use Rattle.flask_io.specs.Streams.{Adds, HasCause};
+ghost use Rattle.run_output.specs.Writing.{AddsFront};
+ghost use Rattle.run_output.specs.declared.stop.RunStop.{RunStop};
+ghost use Rattle.run_output.specs.declared.stop.RunStop.TheVariants as run_stop;
+
+use crate::writing::{WriteFault, write_line};
+use flask_io::Sink;
+use flask_sid::{Memory, Piece};
+
+/// Why a run stopped before its text was written.
+#[derive(Clone, Copy, Debug, PartialEq, Eq)]
+pub enum RunStop {
+    /// The sink failed, and its count of faults rose.
+    WriteFault,
+    Memory,
+}
+
+impl From<Memory> for RunStop {
+    ghost from_gives = { λ _ e. e ≡ run_stop.Memory };
+
+    fn from(_: Memory) -> Self {
+        RunStop::Memory
+    }
+}
+
+/// Writes a line that was put together.
+pub fn put_line<K: Sink>(sink: &mut K, out: &Piece) -> Result<(), RunStop>
+    ensures ok { OnOk result (Adds (K.written sink.old) (K.written sink.new) out.now) }
+    ensures err { OnErr result (AddsFront (K.written sink.old) (K.written sink.new) out.now) }
+    ensures why { IfErr result (λ stop. stop ≡ RunStop.WriteFault) }
+    ensures cause { HasCause (K.faults sink.old) (K.faults sink.new) (result ≡ Err RunStop.WriteFault) }
+{
+    match write_line(sink, out.as_bytes()) {
+        Ok(()) => Ok(()),
+        Err(WriteFault) => Err(RunStop::WriteFault),
+    }
+}

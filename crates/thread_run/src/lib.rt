@@ -1,0 +1,13 @@
+//! A session's run in threads: a worker for each client, the administrator's beside them, and the end of the three stations.
+#![tactic(auto)]
+
+mod administrator;
+mod clients;
+mod leaving;
+mod managers;
+mod prepared;
+mod run;
+mod slots;
+
+pub use prepared::{Prepared, Staff};
+pub use run::run_on_threads;

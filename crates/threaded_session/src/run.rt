@@ -1,0 +1,98 @@
+//! The run.
+
+ghost use Rattle.std.specs.Prelude.{◌≡◌, ◌+◌, ◌<◌, ◌≤◌, None, IfOk};
+ghost use Rattle.session_text.specs.declared.session.SessionParts.{SessionParts};
+ghost use Rattle.epoch_gate.specs.Opening.{refusal};
+ghost use Rattle.run_histories.specs.Histories.{AreOfRun};
+ghost use Rattle.thread_run.specs.Runs as runs;
+ghost use Rattle.threaded_session.specs.Plans.{MayRun, IsPlanOf};
+
+use crate::plan::Plan;
+use access_vectors::Decider;
+use flask_sid::Memory;
+use retained_rights::{AllBits, EachBits};
+use run_histories::Closed;
+use run_scripts::{Scripts, split};
+use run_stops::Stops;
+use station_start::{Limits, Started, seat_all, start};
+use std::alloc::Global;
+use std::sync::Wait;
+use std::thread::Threads;
+use thread_run::{Prepared, Staff, run_on_threads};
+
+/// The last policy number that may be made.
+const MOST: u32 = 1_048_575;
+
+/// The limits of stations for so many clients and lines: each client may enter once more than there are lines. A text has at most 100,000
+/// lines; a session made in another way wants memory where it has a line for each policy number.
+fn limits_of(clients: u8, lines: usize) -> Result<Limits, Memory>
+    requires { clients ≤ 62 }
+    ensures within { IfOk result (λ limits. refusal limits.seats limits.quota limits.most ≡ None) }
+    ensures seats { IfOk result (λ limits. clients ≤ limits.seats) }
+    ensures quota { IfOk result (λ limits. limits.quota ≡ lines + 1) }
+    ensures most { IfOk result (λ limits. (lines < limits.most) × (limits.most ≤ 1048575)) }
+{
+    if lines >= MOST as usize {
+        return Err(Memory);
+    }
+    Ok(Limits {
+        seats: clients.max(1),
+        quota: lines as u32 + 1,
+        most: MOST,
+    })
+}
+
+/// Opens the stations, gives each client its seats, and hands each its script.
+fn prepare<'d, D: Decider>(
+    alloc: Global,
+    decider: &'d D,
+    plan: Plan,
+) -> Result<Prepared<'d, D>, Memory>
+    requires { MayRun (D.decides decider.now) plan }
+    ensures ready { IfOk result (runs.MayRun D.decides) }
+    ensures decider { IfOk result (λ prepared. prepared.staff.decider.now ≡ decider.now) }
+    ensures of { IfOk result (λ prepared. (session : SessionParts) → IsPlanOf session plan → runs.IsPrepared session prepared) }
+{
+    let Plan {
+        openings,
+        clients,
+        lines,
+    } = plan;
+    let limits = limits_of(clients, lines.len())?;
+    let scripts = split(alloc, clients, lines)?;
+    let Started {
+        stations,
+        mut admins,
+    } = start(alloc, decider, openings, limits)?;
+    let seats = seat_all(alloc, &stations, &mut admins, clients)?;
+    let Scripts { clients, admin } = scripts;
+    let staff = Staff {
+        decider,
+        most: limits.most,
+        admins,
+        script: admin,
+    };
+    Ok(Prepared {
+        stations,
+        staff,
+        seats,
+        scripts: clients,
+    })
+}
+
+/// Runs a session: a worker in a thread of its own for each client, and the administrator's beside them. The three histories are
+/// those of a threaded run of the session.
+pub fn run_plan<'d, R: Threads + Wait + Sync, D: Decider + Sync, G: Stops + Sync>(
+    rt: &R,
+    alloc: Global,
+    decider: &'d D,
+    plan: Plan,
+    stops: &G,
+) -> Result<Closed<'d, D, EachBits, AllBits, AllBits>, Memory>
+    requires { MayRun (D.decides decider.now) plan }
+    ensures { IfOk result (λ closed. (session : SessionParts) → IsPlanOf session plan
+        → AreOfRun (D.decides decider.now) session closed.files.history closed.processes.history closed.ports.history) }
+{
+    let prepared = prepare(alloc, decider, plan)?;
+    run_on_threads(rt, alloc, prepared, stops)
+}

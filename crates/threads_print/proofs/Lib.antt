@@ -1,0 +1,4 @@
+pub mod Parts
+pub mod Sorting
+pub mod Marked
+pub mod Logged

@@ -1,0 +1,10 @@
+//! The text of a threaded run, written line by line: the three histories, the audit lines and the summary.
+#![tactic(auto)]
+
+mod audit;
+mod histories;
+mod run;
+mod summary;
+
+pub use histories::Histories;
+pub use run::write_run;
