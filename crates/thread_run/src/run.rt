@@ -59,7 +59,7 @@ fn open<'s, 'd, D: Decider>(
     })
 }
 
-/// Runs the clients' scripts, each in a thread of its own, and the administrator's beside them, whatever its managers are, and joins
+/// Runs the clients' scripts, a worker for each, and the administrator's beside them, whatever its managers are, and joins
 /// them all.
 fn run_together<
     'd,
@@ -114,7 +114,7 @@ fn run_workers<'d, R: Threads + Wait + Sync, D: Decider + Sync, G: Stops + Sync>
     })
 }
 
-/// Runs a session: a worker in a thread of its own for each client, and the administrator's beside them. All are joined; then every
+/// Runs a session: a worker for each client, and the administrator's beside them. All are joined; then every
 /// seat is retired and the three stations are ended, also where a worker wanted memory, and only then is that answered. The three
 /// histories are those of a threaded run of the session that was prepared.
 pub fn run_on_threads<'d, R: Threads + Wait + Sync, D: Decider + Sync, G: Stops + Sync>(

@@ -80,7 +80,7 @@ fn prepare<'d, D: Decider>(
     })
 }
 
-/// Runs a session: a worker in a thread of its own for each client, and the administrator's beside them. The three histories are
+/// Runs a session: a worker for each client, and the administrator's beside them. The three histories are
 /// those of a threaded run of the session.
 pub fn run_plan<'d, R: Threads + Wait + Sync, D: Decider + Sync, G: Stops + Sync>(
     rt: &R,
