@@ -1,0 +1,1 @@
+autocmd BufNewFile,BufRead *.session,*.policy set filetype=flaskd
