@@ -1,5 +1,5 @@
 -- Which questions have an audit line.
-use Rattle.std.specs.Prelude.{ℕ, Bool, not, List, [], map, if◌then◌else◌}
+use Rattle.std.specs.Prelude.{ℕ, Bool, not, ◌&&◌, List, [], map, if◌then◌else◌}
 use Rattle.std.specs.List.{list_any, filter}
 use Rattle.flask_sid.specs.declared.context.ContextOf.{ContextOf}
 use Rattle.access_vectors.specs.Table.{Permission}
@@ -22,6 +22,10 @@ unfoldable pub is_audited : PolicyParts → List (ContextOf (List ℕ)) → Aske
 is_audited policy contexts asked =
     if asked.yes then is_listed policy policy.loud (context_with contexts asked.s).kind (context_with contexts asked.t).kind asked.perm
     else not (is_listed policy policy.silent (context_with contexts asked.s).kind (context_with contexts asked.t).kind asked.perm)
+
+-- a question was denied and has an audit line
+abbrev pub is_denial : PolicyParts → List (ContextOf (List ℕ)) → Asked → Bool
+is_denial policy contexts asked = not asked.yes && is_audited policy contexts asked
 
 -- the audit line of a question of an operation: it is its caller's, whoever was judged
 abbrev pub line_for : Acting → Asked → AuditLine

@@ -1,6 +1,7 @@
 //! Which questions have an audit line.
 
-ghost use Rattle.std.specs.Prelude.{◌≡◌, IfOk, OnOk};
+ghost use Rattle.std.specs.Prelude.{◌≡◌, ◌++◌, IfOk, OnOk};
+ghost use Rattle.std.specs.List.{filter};
 ghost use Rattle.text_print.specs.Printed.{context_with};
 ghost use Rattle.audit_log.specs.Audited;
 
@@ -76,6 +77,23 @@ pub fn lines_asked(
         }
     }
     Ok(lines)
+}
+
+/// Puts those of these questions that were denied and have an audit line, in their order.
+pub fn put_denials(
+    out: &mut Rows<Asked>,
+    policy: &PolicyParts,
+    sids: &SidTable,
+    asked: &[Asked],
+) -> Result<(), Memory>
+    ensures { OnOk result (out.new ≡ out.old ++ filter (Audited.is_denial policy.now sids.now) asked.now) }
+{
+    'questions: for question in asked {
+        if !question.yes && is_audited(policy, sids, question) {
+            out.push(*question)?;
+        }
+    }
+    Ok(())
 }
 
 pub(crate) fn line_for(acting: Acting, asked: &Asked) -> AuditLine

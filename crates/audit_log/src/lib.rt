@@ -5,6 +5,6 @@ mod audited;
 mod log;
 mod texts;
 
-pub use audited::{Acting, AuditLine, AuditLines, lines_asked, lines_of};
+pub use audited::{Acting, AuditLine, AuditLines, lines_asked, lines_of, put_denials};
 pub use log::AuditLog;
 pub use texts::{put_text, text};

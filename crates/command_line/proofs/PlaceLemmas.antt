@@ -66,6 +66,10 @@ module _ (name : List ℕ) (n : begins_with_dash name ≡ false) where
     two_on rest = one_on (one ∷ rest)
         ∙ word_passes (first name) 2 (at (second name one) 3) one rest (word_turn one s shape 2 (first name)) (walked_second name one s)
 
+    pub two_pass : fault_of program (name ∷ one ∷ []) ≡ []
+    unfolding defaults_fault walk_fault
+    two_pass = ap₂ end_fault (walk_two name one n s) (two_on [])
+
     module _ (two : List ℕ) (c : begins_with_dash two ≡ false) where
       three_on : (rest : List (List ℕ)) → walk_fault shape [] (at nothing_held 1) (name ∷ one ∷ two ∷ rest)
           ≡ walk_fault shape [] (at (third name one two) 4) rest
@@ -153,7 +157,9 @@ pub refused : (words : List (List ℕ)) → list_all is_argument words ≡ true 
 unfolding command_of
 refused [] told found among = refl
 refused (name ∷ []) told found among = absurd (subst (IsAmong found) (one_passes name (plain_of name (both _ _ told).0)) among)
-refused (name ∷ one ∷ []) told found among = refl
+refused (name ∷ one ∷ []) told found among =
+    let t = both _ _ told in
+    absurd (subst (IsAmong found) (two_pass name (plain_of name t.0) one (plain_of one (both _ _ t.1).0)) among)
 refused (name ∷ one ∷ two ∷ []) told found among = refl
 refused (name ∷ one ∷ two ∷ three ∷ []) told found among =
     let t = both _ _ told in

@@ -5,7 +5,7 @@ use Rattle.std.specs.Str.{bytes_eq}
 use Rattle.std.proofs.lemmas.Bool.Decides.{nat_tests}
 use Rattle.text_lines.specs.Numerals.{numeral_of}
 use Rattle.text_lines.specs.OptionSteps.{◌>>=◌}
-use Rattle.command_line.specs.Commands.{number_within, one_form, generate_form, path_form, four_form, command_of, IsRanged}
+use Rattle.command_line.specs.Commands.{number_within, one_form, two_form, generate_form, path_form, four_form, command_of, IsRanged}
 use Rattle.command_line.specs.declared.command.Command.{Command}
 use Rattle.command_line.specs.declared.command.PathAsked.{PathAsked}
 use Rattle.command_line.specs.declared.command.Command.TheVariants as command
@@ -77,6 +77,15 @@ one_ranged name = by_tests (bytes_eq name (codes "serial")) (bytes_eq name (code
     by_tests false true = tt
     by_tests false false = tt
 
+two_ranged : (name one : List ℕ) → IfSome (two_form name one) IsRanged
+unfolding two_form
+two_ranged name one = by_test (bytes_eq name (codes "learn")) (numeral_of one)
+  where
+    by_test : (learns : Bool) (version : Option ℕ) → IfSome (if learns then option_map command.Learn version else None) IsRanged
+    by_test true (Some version) = tt
+    by_test true None = tt
+    by_test false version = tt
+
 -- the numbers of any command
 pub command_ranged : (words : List (List ℕ)) (found : Command) → command_of words ≡ Some found → IsRanged found
 unfolding command_of
@@ -85,7 +94,7 @@ command_ranged words found is = if_found IsRanged (command_of words) found (by_w
     by_words : (words : List (List ℕ)) → IfSome (command_of words) IsRanged
     by_words [] = tt
     by_words (name ∷ []) = one_ranged name
-    by_words (name ∷ one ∷ []) = tt
+    by_words (name ∷ one ∷ []) = two_ranged name one
     by_words (name ∷ one ∷ two ∷ []) = tt
     by_words (name ∷ one ∷ two ∷ three ∷ []) = four_ranged name one two three
     by_words (name ∷ one ∷ two ∷ three ∷ four ∷ more) = tt

@@ -14,7 +14,7 @@ use Rattle.text_lines.specs.Numerals.{is_digit, numeral_of}
 use Rattle.text_lines.specs.OptionSteps.{◌>>=◌}
 use Rattle.command_line.specs.Arguments.{begins_with_dash, is_argument}
 use Rattle.flask_sid.specs.Names.{is_lower, is_name, is_name_byte, is_name_form}
-use Rattle.command_line.specs.Commands.{command_of, four_form, generate_form, most_clients, most_lines, most_seed, number_within, one_form, path_form}
+use Rattle.command_line.specs.Commands.{command_of, four_form, generate_form, most_clients, most_lines, most_seed, number_within, one_form, two_form, path_form}
 use Rattle.command_line.specs.declared.command.Command.{Command}
 use Rattle.command_line.specs.declared.command.PathAsked.{PathAsked}
 use Rattle.command_line.specs.declared.command.Command.TheVariants as command
@@ -147,9 +147,24 @@ enter_is : is_argument (codes "enter") ≡ true
 unfolding is_argument is_utf8 chars encode_utf8
 enter_is = refl
 
+learn_is : is_argument (codes "learn") ≡ true
+unfolding is_argument is_utf8 chars encode_utf8
+learn_is = refl
+
 no_one : (name : List ℕ) → is_argument name ≡ false → one_form name ≡ None
 unfolding one_form
 no_one name told = rw (never_named name (codes "serial") told serial_is, never_named name (codes "threads") told threads_is) refl
+
+-- one of the two is no argument
+no_two : (name one : List ℕ) (n s : Bool) → is_argument name ≡ n → is_argument one ≡ s → (n && (s && true)) ≡ false → two_form name one ≡ None
+unfolding two_form
+no_two name one false s is_n is_s told = rw (never_named name (codes "learn") is_n learn_is) refl
+no_two name one true true is_n is_s told = absurd (true≢false told)
+no_two name one true false is_n is_s told = by_name (bytes_eq name (codes "learn"))
+  where
+    by_name : (learns : Bool) → (if learns then option_map command.Learn (numeral_of one) else None) ≡ None
+    by_name true = ap (option_map command.Learn) (no_numeral one is_s)
+    by_name false = refl
 
 -- what is asked where each number is there
 abbrev generated : Option ℕ → Option ℕ → Option ℕ → Option Command
@@ -251,7 +266,7 @@ pub no_command : (words : List (List ℕ)) → list_all is_argument words ≡ fa
 unfolding command_of
 no_command [] told = refl
 no_command (name ∷ []) told = no_one name (and_true (is_argument name) told)
-no_command (name ∷ one ∷ []) told = refl
+no_command (name ∷ one ∷ []) told = no_two name one _ _ refl refl told
 no_command (name ∷ one ∷ two ∷ []) told = refl
 no_command (name ∷ one ∷ two ∷ three ∷ []) told = no_four one two three name _ _ _ _ refl refl refl refl told
 no_command (name ∷ one ∷ two ∷ three ∷ more ∷ rest) told = refl

@@ -31,6 +31,10 @@ one_form name =
     else if bytes_eq name (codes "threads") then Some command.Threads
     else None
 
+-- a command of two words: `learn`, and a numeral of any value
+unfoldable pub two_form : List ℕ → List ℕ → Option Command
+two_form name one = if bytes_eq name (codes "learn") then option_map command.Learn (numeral_of one) else None
+
 -- the words behind `generate`: SEED CLIENTS LINES
 unfoldable pub generate_form : List ℕ → List ℕ → List ℕ → Option Command
 generate_form seed clients lines = do
@@ -53,9 +57,10 @@ four_form name one two three =
     else if bytes_eq name (codes "enter") then option_map command.Enter (path_form one two three)
     else None
 
--- the command that words are: one word or four, and every other list is none
+-- the command that words are: one word, two or four, and every other list is none
 unfoldable pub command_of : List (List ℕ) → Option Command
 command_of (name ∷ []) = one_form name
+command_of (name ∷ one ∷ []) = two_form name one
 command_of (name ∷ one ∷ two ∷ three ∷ []) = four_form name one two three
 command_of _ = None
 
@@ -67,13 +72,14 @@ pub record IsWithin (seed clients lines : ℕ) : Type 0 where
   pub some_line : 1 ≤ lines
   pub few_lines : lines ≤ most_lines
 
--- a command with its numbers in their ranges; the version of `flow` and `enter` may be any
+-- a command with its numbers in their ranges; the version of `flow`, `enter` and `learn` may be any
 abbrev pub IsRanged : Command → Type 0
 IsRanged (command.Generate seed clients lines) = IsWithin seed clients lines
 IsRanged other = Unit {0}
 
--- the command whose words stand in these places, the first of them alone or all four
+-- the command whose words stand in these places, from the first on: one of them, two or all four
 unfoldable pub command_by : Option (List ℕ) → Option (List ℕ) → Option (List ℕ) → Option (List ℕ) → Option Command
 command_by (Some name) None None None = one_form name
+command_by (Some name) (Some one) None None = two_form name one
 command_by (Some name) (Some one) (Some two) (Some three) = four_form name one two three
 command_by _ _ _ _ = None

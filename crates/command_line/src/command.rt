@@ -39,6 +39,8 @@ pub enum Command {
     Flow(PathAsked),
     /// Finds the shortest way by which a domain of the policy of the source is entered from another.
     Enter(PathAsked),
+    /// Runs the session of the source, and finds the `allow` lines that its denials under a version ask for.
+    Learn { version: u64 },
 }
 
 /// The command whose words stand in these places.
@@ -57,6 +59,7 @@ pub(crate) fn command_by(
     };
     match (one, two, three) {
         (None, None, None) => Ok(one_form(name)),
+        (Some(one), None, None) => Ok(two_form(name, one)),
         (Some(one), Some(two), Some(three)) => four_form(alloc, name, one, two, three),
         _ => Ok(None),
     }
@@ -74,6 +77,18 @@ fn one_form(name: &str) -> Option<Command>
     } else {
         None
     }
+}
+
+// A command of two words: `learn VERSION`.
+#[tactic(auto, unfolding(crate::specs::Commands::two_form))]
+fn two_form(name: &str, one: &str) -> Option<Command>
+    ensures { result ≡ Commands.two_form name.now one.now }
+{
+    if name != "learn" {
+        return None;
+    }
+    let version = numeral(&Word::new(one.as_bytes()))?;
+    Some(Command::Learn { version })
 }
 
 // A command of four words, by the first.

@@ -1,5 +1,6 @@
 pub mod SerialLemmas
 pub mod AuditLemmas
+pub mod LearningLemmas
 pub mod TopLemmas
 pub mod PathLemmas
 pub mod OpenedLemmas

@@ -50,6 +50,7 @@ unread_ends said command.Threads bytes before after reads served = tt
 unread_ends said (command.Generate seed clients lines) bytes before after reads served = made_ends said seed clients lines before after served
 unread_ends said (command.Flow asked) bytes before after reads served = tt
 unread_ends said (command.Enter asked) bytes before after reads served = tt
+unread_ends said (command.Learn version) bytes before after reads served = tt
 
 -- of a command that reads its input nothing is asked
 pub read_ends : (said : Status) (asked : Command) → reads_input asked ≡ true → EndsMade (Some asked) said
@@ -58,3 +59,4 @@ read_ends said command.Threads reads = tt
 read_ends said (command.Generate seed clients lines) reads = absurd (true≢false (sym reads))
 read_ends said (command.Flow asked) reads = tt
 read_ends said (command.Enter asked) reads = tt
+read_ends said (command.Learn version) reads = tt

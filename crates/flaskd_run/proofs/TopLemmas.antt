@@ -1,6 +1,6 @@
 -- How a run goes, by where it ends.
 use Rattle.std.proofs.Common.{◌≡◌, ◌≤◌, ◌&&◌, ℕ, Bool, true, false, true≢false, List, [], length, Option, None, Some, Result, Ok, Err, refl, sym, ◌∙◌, ap, append-nil, inl, inr, arith, subst}
-use Rattle.std.specs.Prelude.{◌⊎◌, OnOk, OnErr}
+use Rattle.std.specs.Prelude.{◌<◌, ◌⊎◌, OnOk, OnErr, codes}
 use Rattle.flask_io.specs.Streams.{Takes, Adds}
 use Rattle.text_lines.specs.ResultSteps.{LineFault}
 use Rattle.text_lines.specs.declared.fault.FaultKind.{FaultKind}
@@ -20,6 +20,10 @@ use Rattle.run_output.specs.Writing.{AddsFront}
 use Rattle.flaskd_run.specs.Reading.{IsEnd}
 use Rattle.flaskd_run.specs.Serial.{text_on, summary_on}
 use Rattle.flaskd_run.specs.Paths.{IsFound, found_text}
+use Rattle.flaskd_run.specs.Learning.{IsLearnt, learned_on}
+use Rattle.flaskd_run.specs.declared.learning.Learnt.{Learnt}
+use Rattle.grant_print.specs.Printed.{learned_text}
+use Rattle.std.proofs.lemmas.Bool.{lt-ltb, le-ltb}
 use Rattle.flaskd_run.specs.Threads.{HasEnded, text_of}
 use Rattle.flaskd_run.specs.declared.threads.Ended.{Ended}
 use Rattle.flaskd_run.specs.Tasks.{reads_input, task_of, policy_in, IsText, Writes, WritesAll, WritesFront}
@@ -266,6 +270,23 @@ threads_writes result session parts contexts d ended put now same decides has ok
 pub summary_writes : {A : Type 0} (result : Result A RunStop) (session parts : SessionParts) (contexts : List (ContextOf (List ℕ))) (d : Decisions) (put now : Option (List ℕ)) → parts ≡ session → d ≡ decisions_of session.policy contexts → OnOk result (Adds put now (summary_on d parts)) → OnErr result (AddsFront put now (summary_on d parts)) → Writes result (task.Summary session) contexts put now
 summary_writes result session parts contexts d put now same decides ok err =
     of_text result (task.Summary session) contexts put now (summary_on d parts) (rw (same, decides) refl) ok err
+
+-- that the policy has no such version
+pub no_version_writes : {A : Type 0} (result : Result A RunStop) (session : SessionParts) (version : ℕ) (contexts : List (ContextOf (List ℕ))) (put now : Option (List ℕ)) → length session.policy.versions ≤ version
+    → OnOk result (Adds put now (codes "noversion\n")) → OnErr result (AddsFront put now (codes "noversion\n")) → Writes result (task.Learn session version) contexts put now
+unfolding learned_on
+no_version_writes result session version contexts put now past ok err =
+    of_text result (task.Learn session version) contexts put now (codes "noversion\n") (rw (le-ltb version (length session.policy.versions) past) refl) ok err
+
+-- what was learned
+pub learn_writes : {A : Type 0} (result : Result A RunStop) (session parts : SessionParts) (version : ℕ) (contexts : List (ContextOf (List ℕ))) (d : Decisions) (learnt : Learnt) (put now : Option (List ℕ)) → parts ≡ session → d ≡ decisions_of session.policy contexts
+    → version < length session.policy.versions → IsLearnt version contexts d parts learnt
+    → OnOk result (Adds put now (learned_text learnt.policy learnt.learned.allow learnt.learned.refused)) → OnErr result (AddsFront put now (learned_text learnt.policy learnt.learned.allow learnt.learned.refused)) → Writes result (task.Learn session version) contexts put now
+unfolding learned_on
+learn_writes result session parts version contexts d learnt put now same decides below is ok err =
+    let here : IsLearnt version contexts (decisions_of session.policy contexts) session learnt = rw (same, decides) at is in
+    of_text result (task.Learn session version) contexts put now (learned_text learnt.policy learnt.learned.allow learnt.learned.refused)
+    (rw (lt-ltb version (length session.policy.versions) below, here.policy_is, here.allow_is, here.refused_is) refl) ok err
 
 -- what was found
 pub path_writes : {A : Type 0} (result : Result A RunStop) (policy parts : PolicyParts) (contexts : List (ContextOf (List ℕ))) (kind : Kind) (asked : PathAsked) (found : PathAnswer) (put now : Option (List ℕ)) → parts ≡ policy → IsFound policy contexts kind asked found → OnOk result (Adds put now (found_text parts found)) → OnErr result (AddsFront put now (found_text parts found)) → Writes result (task.Path policy kind asked) contexts put now

@@ -5,5 +5,6 @@ pub mod Serial
 pub mod Underway
 pub mod Paths
 pub mod Threads
+pub mod Learning
 pub mod Tasks
 pub mod Top

@@ -18,6 +18,7 @@ use Rattle.run_output.specs.Writing.{AddsFront}
 use Rattle.flaskd_run.specs.Serial.{text_on, summary_on}
 use Rattle.threads_text.specs.Texts.{IsThreadsText}
 use Rattle.flaskd_run.specs.Paths.{IsPathText}
+use Rattle.flaskd_run.specs.Learning.{learned_on}
 use Rattle.run_output.specs.declared.stop.RunStop.{RunStop}
 use Rattle.run_output.specs.declared.stop.RunStop.TheVariants as run_stop
 use Rattle.flaskd_run.specs.declared.task.Task.{Task}
@@ -32,14 +33,15 @@ reads_input other = true
 abbrev pub path_task : Kind → PathAsked → List ℕ → Result Task LineFault
 path_task sought asked bytes = policy_of bytes >>= λ policy. Ok (task.Path policy sought asked)
 
--- what a command is to do with these bytes, or their first faulty line: `serial` and `threads` read a session, `generate` makes one of its numbers,
--- and `flow` and `enter` read a policy alone
+-- what a command is to do with these bytes, or their first faulty line: `serial`, `threads` and `learn` read a session, `generate` makes one of its
+-- numbers, and `flow` and `enter` read a policy alone
 abbrev pub task_of : Command → List ℕ → Result Task LineFault
 task_of command.Serial bytes = session_of bytes >>= λ session. Ok (task.Serial session)
 task_of command.Threads bytes = session_of bytes >>= λ session. Ok (task.Threads session)
 task_of (command.Generate seed clients lines) bytes = Ok (task.Summary (generated seed clients lines))
 task_of (command.Flow asked) bytes = path_task kind.Flow asked bytes
 task_of (command.Enter asked) bytes = path_task kind.Enter asked bytes
+task_of (command.Learn version) bytes = session_of bytes >>= λ session. Ok (task.Learn session version)
 
 -- the policy of a task
 abbrev pub policy_in : Task → PolicyParts
@@ -47,14 +49,16 @@ policy_in (task.Serial session) = session.policy
 policy_in (task.Threads session) = session.policy
 policy_in (task.Summary session) = session.policy
 policy_in (task.Path policy kind asked) = policy
+policy_in (task.Learn session version) = session.policy
 
 -- the text that a task owes, where its policy has these contexts: all that a session says, the histories of a threaded run
--- of it, its summary alone, or what is found
+-- of it, its summary alone, what is found, or what is learned
 abbrev pub IsText : Task → List (ContextOf (List ℕ)) → List ℕ → Type 0
 IsText (task.Serial session) contexts text = text ≡ text_on contexts (decisions_of session.policy contexts) session
 IsText (task.Threads session) contexts text = IsThreadsText contexts (decisions_of session.policy contexts) session text
 IsText (task.Summary session) contexts text = text ≡ summary_on (decisions_of session.policy contexts) session
 IsText (task.Path policy kind asked) contexts text = IsPathText policy contexts kind asked text
+IsText (task.Learn session version) contexts text = text ≡ learned_on version contexts (decisions_of session.policy contexts) session
 
 -- the text of a task was written
 pub record WritesAll (task : Task) (contexts : List (ContextOf (List ℕ))) (before now : Option (List ℕ)) : Type 0 where

@@ -2,6 +2,7 @@
 #![tactic(auto)]
 
 mod answers;
+mod learning;
 mod lines;
 mod path_texts;
 mod paths;

@@ -10,6 +10,7 @@ ghost use Rattle.run_output.specs.declared.stop.RunStop.{RunStop};
 
 use crate::paths::PathAnswer;
 use crate::texts::put_perm;
+use audit_allow::type_name;
 use flask_io::Sink;
 use flask_sid::{Memory, Piece};
 use flow_query::Hop;
@@ -38,7 +39,7 @@ pub fn write_found<K: Sink>(
 }
 
 /// Writes a line of these bytes.
-fn write_words<K: Sink>(alloc: Global, words: &[u8], sink: &mut K) -> Result<(), RunStop>
+pub(crate) fn write_words<K: Sink>(alloc: Global, words: &[u8], sink: &mut K) -> Result<(), RunStop>
     ensures ok { OnOk result (Adds (K.written sink.old) (K.written sink.new) words.now) }
     ensures err { OnErr result (AddsFront (K.written sink.old) (K.written sink.new) words.now) }
     ensures cause { HasCause (K.faults sink.old) (K.faults sink.new) (result ≡ Err RunStop.WriteFault) }
@@ -123,16 +124,6 @@ fn put_hop(out: &mut Piece, policy: &PolicyParts, hop: &Hop) -> Result<(), Memor
 fn put_type(out: &mut Piece, policy: &PolicyParts, place: u8) -> Result<(), Memory>
     ensures { OnOk result (out.new ≡ out.old ++ (kind_at policy.now place ++ codes " ")) }
 {
-    out.extend(name_at(policy, place))?;
+    out.extend(type_name(policy, place))?;
     out.push(b' ')
-}
-
-/// The name of the declared type at a place.
-fn name_at(policy: &PolicyParts, place: u8) -> &[u8]
-    ensures { result.now ≡ kind_at policy.now place }
-{
-    match policy.kinds.get(usize::from(place)) {
-        None => &[],
-        Some(line) => line.name.as_bytes(),
-    }
 }

@@ -128,7 +128,7 @@ pub fn run_lines<R: Wait, D: Decider, K: Sink>(
 }
 
 /// Does what a line asks, and drops its answer.
-fn act_quietly<R: Wait, D: Decider>(
+pub(crate) fn act_quietly<R: Wait, D: Decider>(
     rt: &R,
     alloc: Global,
     desk: &mut Desk<'_, D>,
@@ -142,6 +142,7 @@ fn act_quietly<R: Wait, D: Decider>(
     requires calls { desk.old.day.calls + 1 < 2 ^ 64 }
     requires changes { desk.old.day.changes + 1 < 2 ^ 64 }
     ensures day { OnOk result (desk.new.day ≡ Serial.day_after (D.decides desk.old.decider) desk.old.day line.run) }
+    ensures asked { OnOk result (Serial.asked_in desk.new.asked line.run ≡ Serial.asked_by (D.decides desk.old.decider) desk.old.day line.run) }
     ensures opening { IsSameOpening desk.old.day desk.new.day }
     ensures decider { desk.new.decider ≡ desk.old.decider }
     ensures whole { OnOk result (desk.new.whole ≡ true) }

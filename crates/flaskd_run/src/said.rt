@@ -12,7 +12,7 @@ pub fn status_text(alloc: Global, status: &Status) -> Result<String, AllocError>
         Status::Ok => String::from_str(alloc, "ok"),
         Status::Usage => String::from_str(
             alloc,
-            "usage: flaskd serial | threads | generate SEED CLIENTS LINES | flow VERSION FROM TO | enter VERSION FROM TO",
+            "usage: flaskd serial | threads | generate SEED CLIENTS LINES | flow VERSION FROM TO | enter VERSION FROM TO | learn VERSION",
         ),
         Status::BadText { line, kind } => {
             let kind = kind_text(*kind);

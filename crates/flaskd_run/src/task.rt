@@ -32,6 +32,11 @@ pub enum Task {
         kind: Kind,
         asked: PathAsked,
     },
+    /// Runs a session, and finds what its denials under a version ask for.
+    Learn {
+        session: Session,
+        version: u64,
+    },
 }
 
 impl Task {
@@ -44,6 +49,7 @@ impl Task {
             Task::Threads(session) => &session.parts().policy,
             Task::Summary(session) => &session.parts().policy,
             Task::Path { policy, .. } => policy,
+            Task::Learn { session, .. } => &session.parts().policy,
         }
     }
 }
@@ -76,6 +82,10 @@ pub fn task_of(alloc: Global, asked: Command, bytes: &[u8]) -> Result<Task, Text
         } => made(alloc, seed, clients, lines),
         Command::Flow(asked) => path_task(alloc, bytes, Kind::Flow, asked),
         Command::Enter(asked) => path_task(alloc, bytes, Kind::Enter, asked),
+        Command::Learn { version } => match session_text::read(alloc, bytes) {
+            Ok(session) => Ok(Task::Learn { session, version }),
+            Err(fault) => Err(fault),
+        },
     }
 }
 

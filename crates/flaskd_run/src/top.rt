@@ -11,7 +11,8 @@ ghost use Rattle.flaskd_run.specs.declared.status.Status.{Status};
 ghost use Rattle.run_output.specs.declared.stop.RunStop.{RunStop};
 ghost use Rattle.flaskd_run.specs.declared.task.Task.TheVariants as task;
 
-use crate::path_texts::write_found;
+use crate::learning::learn;
+use crate::path_texts::{write_found, write_words};
 use crate::paths::find;
 use crate::reading::{INPUT_LIMIT, ReadStop, read_all};
 use crate::serial::{serial, summary};
@@ -23,6 +24,7 @@ use command_line::{Command, PathAsked};
 use flask_io::{Sink, Source};
 use flask_sid::{Memory, Name, Word};
 use flow_query::Kind;
+use grant_print::write_learned;
 use policy_model::{PolicyParts, PolicyText};
 use policy_versions::{Catalogue, CompileFault, compile};
 use run_output::RunStop;
@@ -171,6 +173,9 @@ fn write<R: Threads + Wait + Sync, K: Sink, G: Stops + Sync>(
             kind,
             asked,
         } => answer(alloc, &policy, catalogue, kind, &asked, sink),
+        Task::Learn { session, version } => {
+            learn_session(rt, alloc, session, version, catalogue, sink)
+        }
     }
 }
 
@@ -244,6 +249,26 @@ fn answer<K: Sink>(
 {
     let found = find(alloc, policy, catalogue, kind, asked)?;
     write_found(alloc, policy.parts(), &found, sink)
+}
+
+/// Learns from a session whose policy is compiled, and writes what was learned.
+fn learn_session<R: Wait, K: Sink>(
+    rt: &R,
+    alloc: Global,
+    session: Session,
+    version: u64,
+    catalogue: &Catalogue,
+    sink: &mut K,
+) -> Result<(), RunStop>
+    requires { IsCatalogueOf session.policy catalogue.now }
+    ensures writes { Tasks.Writes result (task.Learn session version) (sids_of catalogue.now) (K.written sink.old) (K.written sink.new) }
+    ensures cause { HasCause (K.faults sink.old) (K.faults sink.new) (result ≡ Err RunStop.WriteFault) }
+{
+    if version >= session.parts().policy.parts().versions.len() as u64 {
+        return write_words(alloc, b"noversion\n", sink);
+    }
+    let learnt = learn(rt, alloc, session.into_parts(), version as u8, catalogue)?;
+    write_learned(alloc, learnt.policy.parts(), &learnt.learned, sink)
 }
 
 /// The status of a session whose policy is not compiled.

@@ -9,3 +9,4 @@ mod policy;
 mod rules;
 
 pub use policy::{print, put_policy};
+pub use rules::put_perms;

@@ -31,8 +31,9 @@ fn put_subjects(out: &mut Piece, source: &Who, target: &Who, class: Class) -> Re
     put_word(out, class_name(class).as_bytes())
 }
 
+/// Puts the names of the permissions that a vector of a class has, each behind a space.
 #[tactic(auto, unfolding(crate::specs::Printed::held_names))]
-fn put_perms(out: &mut Piece, class: Class, perms: Vector) -> Result<(), Memory>
+pub fn put_perms(out: &mut Piece, class: Class, perms: Vector) -> Result<(), Memory>
     ensures { OnOk result (out.new ≡ out.old ++ flat_map behind (Printed.held_names class perms)) }
 {
     'indexes: for index in 0..class.perm_count() {

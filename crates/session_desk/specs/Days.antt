@@ -2,7 +2,7 @@
 use Rattle.std.specs.Prelude.{ℕ, ◌+◌, Bool, true, false, ◌||◌, List, [], ◌∷◌, length, drop, Option, Some, None, if◌then◌else◌}
 use Rattle.std.specs.List.{list_all}
 use Rattle.access_vectors.specs.Decisions.{Decisions}
-use Rattle.access_vectors.specs.Phases.{number_of, is_pending}
+use Rattle.access_vectors.specs.Phases.{number_of, version_at, is_pending}
 use Rattle.access_vectors.specs.declared.class.Class.TheVariants as class
 use Rattle.access_vectors.specs.declared.phase.Phase.{Phase}
 use Rattle.access_vectors.specs.Notices.{notice_fault}
@@ -30,7 +30,7 @@ use Rattle.change_protocol.specs.declared.answers.Said.{Said}
 use Rattle.change_protocol.specs.declared.answers.Said.TheVariants as saying
 use Rattle.session_forms.specs.declared.run_forms.Manager.{Manager}
 use Rattle.session_forms.specs.declared.run_forms.Manager.TheVariants as manager
-use Rattle.session_desk.specs.One.{Place, Files, Processes, Ports, Told, told, denial_in, after_call, after_begin, after_end, acting}
+use Rattle.session_desk.specs.One.{Place, Files, Processes, Ports, Told, told, denial_in, after_call, after_begin, after_end, acting, phase}
 use Rattle.session_desk.specs.declared.acting.Call.{Call}
 use Rattle.session_desk.specs.declared.acting.Call.TheVariants as call
 use Rattle.session_desk.specs.declared.acting.Reply.TheVariants as reply
@@ -113,6 +113,10 @@ day_called d day client asks =
 -- the policy number under which a client acts on a manager
 abbrev pub acting_on : Day → ℕ → Manager → ℕ
 acting_on day client of = acting (place_in day of) client
+
+-- the version of that number
+abbrev pub version_on : Day → ℕ → Manager → ℕ
+version_on day client of = version_at (phase (place_in day of)) (acting_on day client of)
 
 -- after a client took a pass of a manager, and after it gave its pass back
 abbrev pub day_begun : Day → ℕ → Manager → Day

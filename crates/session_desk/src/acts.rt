@@ -68,6 +68,15 @@ impl<'d, D: Decider> Desk<'d, D> {
         self.changes.managers()[usize::from(number_of(manager))].acting(client)
     }
 
+    /// The version of the policy under which a client acts on a manager.
+    pub fn acting_version(&self, client: u8, manager: Manager) -> u8
+        requires { client < 64 }
+        ensures { result ≡ Days.version_on self.now.day client manager }
+    {
+        let one = &self.changes.managers()[usize::from(number_of(manager))];
+        one.phase().version_at(one.acting(client))
+    }
+
     /// What the newest call of a manager asked: one that was aborted nothing.
     pub fn asked(&self, manager: Manager) -> &[Asked]
         ensures { result.now ≡ Desks.asked_of self.now.asked manager }

@@ -1,0 +1,4 @@
+pub mod Denials
+pub mod Grants
+pub mod Cells
+pub mod Appending
