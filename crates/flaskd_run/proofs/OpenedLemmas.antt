@@ -8,7 +8,7 @@ use Rattle.audit_log.specs.Logs.{Gains}
 use Rattle.audit_log.specs.declared.audited.AuditLine.{AuditLine}
 use Rattle.policy_model.specs.declared.policy.PolicyParts.{PolicyParts}
 use Rattle.session_text.specs.Sessions.{IsSession, IsSidOf}
-use Rattle.session_text.proofs.SessionLemmas.{few_clients}
+use Rattle.session_text.proofs.SessionLemmas.{few_clients, few_lines}
 use Rattle.session_text.specs.declared.session.ClientLine.{ClientLine}
 use Rattle.session_text.specs.declared.session.RunLine.{RunLine}
 use Rattle.session_text.specs.declared.session.SessionParts.{SessionParts}
@@ -74,6 +74,7 @@ plan_may d session plan openings_is clients_is lines_is is openings few known = 
   of_processes = ap (λ (o : Openings). length o.processes.clients) openings_is ∙ length-map session.clients (λ (client : ClientLine). client.sid) ∙ sym clients_is;
   of_ports = ap (λ (o : Openings). length o.ports.clients) openings_is ∙ length-map session.clients (λ (client : ClientLine). client.sid) ∙ sym clients_is;
   few = rw clients_is (few_clients session is);
+  few_lines = rw lines_is (few_lines session is);
   formed = rw (clients_is, lines_is) (session_may session d is few known).formed;
 }
 

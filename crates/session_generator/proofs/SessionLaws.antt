@@ -1,5 +1,5 @@
 -- What is made of three numbers within their ranges is a session.
-use Rattle.std.proofs.Common.{◌≡◌, ◌∙◌, ◌<◌, ◌+◌, ℕ, zero, suc, List, [], ◌∷◌, ◌++◌, All, refl, sym, ap, subst, arith, append_assoc, add-one}
+use Rattle.std.proofs.Common.{◌≡◌, ◌∙◌, ◌<◌, ◌≤◌, ◌+◌, ℕ, zero, suc, List, [], ◌∷◌, ◌++◌, All, refl, sym, ap, subst, arith, append_assoc, add-one}
 use Rattle.std.proofs.lemmas.List.Elements.{All-append, All-cons, All-nil}
 use Rattle.std.proofs.lemmas.List.{append-nil}
 use Rattle.command_line.specs.Commands.{IsWithin}
@@ -20,16 +20,16 @@ above_next first run seen above =
     (All-cons (λ line. line.line < first + 1) (record { line = first; run = run }) [] (omega arith) (All-nil (λ line. line.line < first + 1)))
 
 -- a line that runs may follow those above it
-next_line : (clients x first : ℕ) (seen : List RunLine) → 0 < clients → All (λ above. above.line < first) seen → MayLine policy.contexts (clients_to clients) seen (record { line = first; run = run_from clients x })
-next_line clients x first seen some above =
+next_line : (clients x first : ℕ) (seen : List RunLine) → 0 < clients → first ≤ 100000 → All (λ above. above.line < first) seen → MayLine policy.contexts (clients_to clients) seen (record { line = first; run = run_from clients x })
+next_line clients x first seen some within above =
     let good = run_good clients (drawn (next_state x)) (drawn (next_state (next_state x))) (drawn (state_behind x)) some in
-    record { below = above; run = subst (λ many. IsRun (IsSidOf policy.contexts) many (run_from clients x)) (sym (clients_count clients)) good.may; written = good.written; turn = good.turn seen }
+    record { below = above; within = within; run = subst (λ many. IsRun (IsSidOf policy.contexts) many (run_from clients x)) (sym (clients_count clients)) good.may; written = good.written; turn = good.turn seen }
 
-lines_grow : (clients : ℕ) → 0 < clients → (n x first : ℕ) (seen : List RunLine) → All (λ above. above.line < first) seen → Grows (MayLine policy.contexts (clients_to clients)) seen (lines_from clients x first n)
-lines_grow clients some zero x first seen above = tt
-lines_grow clients some (suc n) x first seen above = (
-  next_line clients x first seen some above,
-  lines_grow clients some n (state_behind x) (first + 1) (seen ++ record { line = first; run = run_from clients x } ∷ []) (above_next first (run_from clients x) seen above),
+lines_grow : (clients : ℕ) → 0 < clients → (n x first : ℕ) (seen : List RunLine) → first + n ≤ 100001 → All (λ above. above.line < first) seen → Grows (MayLine policy.contexts (clients_to clients)) seen (lines_from clients x first n)
+lines_grow clients some zero x first seen within above = tt
+lines_grow clients some (suc n) x first seen within above = (
+  next_line clients x first seen some (omega (arith, within)) above,
+  lines_grow clients some n (state_behind x) (first + 1) (seen ++ record { line = first; run = run_from clients x } ∷ []) (omega (arith, within)) (above_next first (run_from clients x) seen above),
 )
 
 -- the session of these numbers is one
@@ -41,7 +41,7 @@ is_session seed clients lines within = record {
   ports = tt;
   nodes = tt;
   clients = clients_grow clients within.few_clients;
-  lines = lines_grow clients within.some_client lines seed (lines_above + clients + 2) [] (All-nil (λ above. above.line < lines_above + clients + 2));
+  lines = lines_grow clients within.some_client lines seed (lines_above + clients + 2) [] (omega (arith, within.few_clients, within.few_lines)) (All-nil (λ above. above.line < lines_above + clients + 2));
 }
 
 -- the first of the lines from a state on, and those behind it

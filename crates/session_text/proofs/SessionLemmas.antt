@@ -1,10 +1,12 @@
 -- What a session's users may rely on.
 use Rattle.std.proofs.Common.{◌≡◌, ◌<◌, ◌≤◌, ◌+◌, ℕ, List, [], ◌∷◌, ◌++◌, length, length-append, All, arith}
-use Rattle.std.proofs.lemmas.List.Elements.{All-cons, All-nil}
+use Rattle.std.proofs.lemmas.List.Elements.{All-cons, All-nil, All-head, All-tail}
 use Rattle.file_calls.specs.Openings.{AreEntries, AreNodes}
 use Rattle.file_calls.specs.declared.opening.Node.{Node}
 use Rattle.policy_model.specs.Kept.{Grows}
 use Rattle.policy_model.specs.declared.policy.ContextLine.{ContextLine}
+use Rattle.session_text.specs.declared.session.ClientLine.{ClientLine}
+use Rattle.session_text.specs.declared.session.RunLine.{RunLine}
 use Rattle.session_text.specs.declared.session.SessionParts.{SessionParts}
 use Rattle.session_text.specs.Above.{node_limit, port_limit, client_limit}
 use Rattle.session_text.specs.Sessions.{IsSession, IsSidOf, IsRun, MayPort, MayNode, MayClient, MayLine}
@@ -56,6 +58,29 @@ pub are_nodes : (session : SessionParts) → IsSession session → AreNodes sess
 are_nodes session is =
     let few = few_nodes session is in
     record { entries = entries_of session.policy.contexts [] session.nodes is.nodes; few = omega arith }
+
+-- the last member of a list
+last_of : {X : Type 0} (P : X → Type 0) (xs : List X) (x : X) → All P (xs ++ x ∷ []) → P x
+last_of P [] x all = All-head P x [] all
+last_of P (y ∷ ys) x all = last_of P ys x (All-tail P y (ys ++ x ∷ []) all)
+
+-- lines that follow others, below so many of which no number is free, are few
+lines_span : (contexts : List ContextLine) (clients : List ClientLine) (seen lines : List RunLine) (low : ℕ) → low ≤ 100001 → ((n : ℕ) → All (λ above. above.line < n) seen → low ≤ n)
+    → Grows (MayLine contexts clients) seen lines → low + length lines ≤ 100001
+lines_span contexts clients seen [] low few least grown = omega (arith, few)
+lines_span contexts clients seen (line ∷ lines) low few least grown =
+    let here : low ≤ line.line = least line.line grown.0.below in
+    let within : line.line ≤ 100000 = grown.0.within in
+    let rest : low + 1 + length lines ≤ 100001 =
+    lines_span contexts clients (seen ++ line ∷ []) lines (low + 1) (omega (arith, here, within))
+    (λ n all. let before : line.line < n = last_of (λ above. above.line < n) seen line all in omega (arith, here, before)) grown.1 in
+    omega (arith, rest)
+
+-- a session has no more lines than its text
+pub few_lines : (session : SessionParts) → IsSession session → length session.lines ≤ 100001
+few_lines session is =
+    let span : 0 + length session.lines ≤ 100001 = lines_span session.policy.contexts session.clients [] session.lines 0 (omega arith) (λ n all. omega arith) is.lines in
+    omega (arith, span)
 
 -- each line asks what a line may ask
 pub lines_run : (session : SessionParts) → IsSession session → All (λ line. IsRun (IsSidOf session.policy.contexts) (length session.clients) line.run) session.lines

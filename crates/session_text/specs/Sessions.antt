@@ -3,7 +3,7 @@ use Rattle.std.specs.Prelude.{◌≡◌, ℕ, ◌<◌, ◌≤◌, Bool, true, fa
 use Rattle.std.specs.List.{list_all}
 use Rattle.std.specs.Str.{bytes_eq}
 use Rattle.flask_sid.specs.Names.{is_name}
-use Rattle.text_lines.specs.Lines.{is_word_byte}
+use Rattle.text_lines.specs.Lines.{is_word_byte, line_limit}
 use Rattle.file_calls.specs.Formed.{IsCall, IsPath}
 use Rattle.file_calls.specs.Openings.{has_node, is_parent_there}
 use Rattle.file_calls.specs.declared.call.FileCall.{FileCall}
@@ -142,9 +142,10 @@ IsTurn seen (Begin client manager) = is_held seen client manager ≡ false
 IsTurn seen (End client manager) = is_held seen client manager ≡ true
 IsTurn seen run = Unit {0}
 
--- a line stands below those before it, asks what a line may ask, can be written, and takes and gives back passes in turn
+-- a line stands below those before it, has a number that a text may have, asks what a line may ask, can be written, and takes and gives back passes in turn
 pub record MayLine (contexts : List ContextLine) (clients : List ClientLine) (seen : List RunLine) (line : RunLine) : Type 0 where
   pub below : All (λ above. above.line < line.line) seen
+  pub within : line.line ≤ line_limit
   pub run : IsRun (IsSidOf contexts) (length clients) line.run
   pub written : IsWritten line.run
   pub turn : IsTurn seen line.run

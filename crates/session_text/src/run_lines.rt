@@ -1,5 +1,6 @@
 //! What a line that runs asks of the lines above it.
 
+ghost use Rattle.std.specs.Prelude.{◌≤◌};
 ghost use Rattle.session_forms.specs.ArgumentForms.{IsCallForm, IsRunForm};
 ghost use Rattle.session_text.specs.Grammar;
 ghost use Rattle.session_text.specs.Progress.{AreAbove, Becomes};
@@ -22,6 +23,7 @@ pub(crate) fn run_read<'a>(
 ) -> Result<(), Refusal>
     requires form { IsRunForm form }
     requires above { AreAbove line running.old.lines }
+    requires counted { line ≤ 100000 }
     ensures { Becomes result running.new (Grammar.run_read line form.entry running.old) }
 {
     match form {
@@ -46,6 +48,7 @@ fn client_call_read<'a>(
 ) -> Result<(), Refusal>
     requires form { IsCallForm form }
     requires above { AreAbove line running.old.lines }
+    requires counted { line ≤ 100000 }
     ensures { Becomes result running.new (Grammar.client_call_read line name.entry form.entry running.old) }
 {
     if name.is_long() || is_past_call(&form) {
@@ -66,7 +69,8 @@ fn begin_read<'a>(
     manager: Manager,
     running: &mut Running<'a>,
 ) -> Result<(), Refusal>
-    requires { AreAbove line running.old.lines }
+    requires above { AreAbove line running.old.lines }
+    requires counted { line ≤ 100000 }
     ensures { Becomes result running.new (Grammar.begin_read line name.entry manager running.old) }
 {
     if running.holds(manager, &name) {
@@ -89,7 +93,8 @@ fn end_read<'a>(
     manager: Manager,
     running: &mut Running<'a>,
 ) -> Result<(), Refusal>
-    requires { AreAbove line running.old.lines }
+    requires above { AreAbove line running.old.lines }
+    requires counted { line ≤ 100000 }
     ensures { Becomes result running.new (Grammar.end_read line name.entry manager running.old) }
 {
     if !running.holds(manager, &name) {
@@ -104,7 +109,8 @@ fn end_read<'a>(
 /// A `notify` line.
 #[tactic(auto, unfolding(crate::specs::Grammar::notify_read))]
 fn notify_read(line: u32, version: u64, running: &mut Running<'_>) -> Result<(), Refusal>
-    requires { AreAbove line running.old.lines }
+    requires above { AreAbove line running.old.lines }
+    requires counted { line ≤ 100000 }
     ensures { Becomes result running.new (Grammar.notify_read line version running.old) }
 {
     if version > 255 {
@@ -117,7 +123,8 @@ fn notify_read(line: u32, version: u64, running: &mut Running<'_>) -> Result<(),
 /// An `update` line.
 #[tactic(auto, unfolding(crate::specs::Grammar::update_read))]
 fn update_read(line: u32, most: u64, running: &mut Running<'_>) -> Result<(), Refusal>
-    requires { AreAbove line running.old.lines }
+    requires above { AreAbove line running.old.lines }
+    requires counted { line ≤ 100000 }
     ensures { Becomes result running.new (Grammar.update_read line most running.old) }
 {
     if most > 4_294_967_295 {

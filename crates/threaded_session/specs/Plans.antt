@@ -15,6 +15,7 @@ pub record MayRun (d : Decisions) (plan : Plan) : Type 0 where
   pub of_processes : length plan.openings.processes.clients ≡ plan.clients
   pub of_ports : length plan.openings.ports.clients ≡ plan.clients
   pub few : plan.clients ≤ 62
+  pub few_lines : length plan.lines.items ≤ 100001
   pub formed : All (λ line. IsRun (λ sid. IsTrue (d.known sid)) plan.clients line.run) plan.lines.items
 
 -- this session is run so

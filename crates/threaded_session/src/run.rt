@@ -23,23 +23,20 @@ use thread_run::{Prepared, Staff, run_on_threads};
 /// The last policy number that may be made.
 const MOST: u32 = 1_048_575;
 
-/// The limits of stations for so many clients and lines: each client may enter once more than there are lines. A text has at most 100,000
-/// lines; a session made in another way wants memory where it has a line for each policy number.
-fn limits_of(clients: u8, lines: usize) -> Result<Limits, Memory>
-    requires { clients ≤ 62 }
-    ensures within { IfOk result (λ limits. refusal limits.seats limits.quota limits.most ≡ None) }
-    ensures seats { IfOk result (λ limits. clients ≤ limits.seats) }
-    ensures quota { IfOk result (λ limits. limits.quota ≡ lines + 1) }
-    ensures most { IfOk result (λ limits. (lines < limits.most) × (limits.most ≤ 1048575)) }
+/// The limits of stations for so many clients and lines: each client may enter once more than there are lines, which are fewer than policy numbers.
+fn limits_of(clients: u8, lines: usize) -> Limits
+    requires clients { clients ≤ 62 }
+    requires lines { lines ≤ 100001 }
+    ensures within { refusal result.seats result.quota result.most ≡ None }
+    ensures seats { clients ≤ result.seats }
+    ensures quota { result.quota ≡ lines + 1 }
+    ensures most { (lines < result.most) × (result.most ≤ 1048575) }
 {
-    if lines >= MOST as usize {
-        return Err(Memory);
-    }
-    Ok(Limits {
+    Limits {
         seats: clients.max(1),
         quota: lines as u32 + 1,
         most: MOST,
-    })
+    }
 }
 
 /// Opens the stations, gives each client its seats, and hands each its script.
@@ -58,7 +55,7 @@ fn prepare<'d, D: Decider>(
         clients,
         lines,
     } = plan;
-    let limits = limits_of(clients, lines.len())?;
+    let limits = limits_of(clients, lines.len());
     let scripts = split(alloc, clients, lines)?;
     let Started {
         stations,
