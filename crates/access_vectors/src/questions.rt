@@ -4,14 +4,16 @@ ghost use Rattle.std.specs.Prelude.{◌≡◌, [], ◌∷◌, ◌++◌, length, 
 ghost use Rattle.std.specs.Option.{option_copied};
 
 use crate::asked::Asked;
-use flask_sid::{Memory, Rows};
+use flask_sid::Memory;
+use smallvec::SmallVec;
 use std::alloc::Global;
 use std::marker::Model;
 
-/// The questions of a call in the order in which they were asked, which contracts see as a list of `Asked`.
+/// The questions of a call in the order in which they were asked, which contracts see as a list of `Asked`. Up to two
+/// lie in the value itself.
 #[derive(Debug, Drop)]
 pub struct Questions {
-    asked: Rows<Asked>,
+    asked: SmallVec<Asked, 2>,
 }
 
 impl Model for Questions {
@@ -20,7 +22,7 @@ impl Model for Questions {
 
     ghost Value = { List Asked };
 
-    ghost view = { λ questions. questions.asked };
+    ghost view = { λ questions. questions.asked.items };
 }
 
 impl Questions {
@@ -29,7 +31,7 @@ impl Questions {
         ensures { result ≡ [] }
     {
         Questions {
-            asked: Rows::new(alloc),
+            asked: SmallVec::new(alloc),
         }
     }
 
@@ -38,7 +40,8 @@ impl Questions {
         ensures ok { OnOk result (self.new ≡ self.old ++ q ∷ []) }
         ensures err { OnErr result (self.new ≡ self.old) }
     {
-        self.asked.push(q)
+        self.asked.push(q)?;
+        Ok(())
     }
 
     /// How many questions there are.
@@ -52,7 +55,7 @@ impl Questions {
     pub fn get(&self, at: usize) -> Option<&Asked>
         ensures { option_copied result ≡ slice_get self.now at }
     {
-        self.asked.get(at)
+        self.asked.as_slice().get(at)
     }
 
     /// The questions as a slice.
@@ -67,7 +70,7 @@ impl Questions {
         ensures { IfOk result (λ questions. questions ≡ self.now) }
     {
         Ok(Questions {
-            asked: Rows::from_vec(Vec::from_slice(alloc, self.as_slice())?),
+            asked: SmallVec::from_slice(alloc, self.as_slice())?,
         })
     }
 }

@@ -4,13 +4,14 @@ ghost use Rattle.std.specs.Prelude.{◌≡◌, ◌==◌, [], ◌∷◌, ◌++◌
 ghost use Rattle.std.specs.Option.{option_copied};
 
 use crate::Memory;
+use smallvec::SmallVec;
 use std::alloc::Global;
 use std::marker::Model;
 
-/// A growing text or datum, which contracts see as the list of its bytes.
+/// A growing text or datum, which contracts see as the list of its bytes. Up to 24 bytes lie in the value itself.
 #[derive(Debug, Drop)]
 pub struct Piece {
-    bytes: Vec<u8>,
+    bytes: SmallVec<u8, 24>,
 }
 
 impl Model for Piece {
@@ -27,7 +28,7 @@ impl Piece {
         ensures { result ≡ [] }
     {
         Piece {
-            bytes: Vec::new(alloc),
+            bytes: SmallVec::new(alloc),
         }
     }
 
@@ -36,7 +37,7 @@ impl Piece {
         ensures { IfOk result (λ piece. piece ≡ bytes.now) }
     {
         Ok(Piece {
-            bytes: Vec::from_slice(alloc, bytes)?,
+            bytes: SmallVec::from_slice(alloc, bytes)?,
         })
     }
 
