@@ -19,6 +19,7 @@ use Rattle.flask_sid.specs.contracts.rows.Rows as rows
 use Rattle.access_vectors.specs.contracts.asked.Asked as asked
 use Rattle.atomic_table.proofs.send_lease.SendLease.TheSendSync as lease
 use Rattle.std.proofs.Crossing.{send, sync, frees}
+use Rattle.station_crossing.proofs.ShortLists.{small_vec_send}
 
 pub asked_send : IsSend asked.the_row
 asked_send = search (sendable, crosses) depth 20
@@ -27,10 +28,10 @@ pub rows_send : (T : RattleType) → IsSend T → IsSend (rows.the_row T)
 rows_send T t = search (sendable, crosses) depth 20
 
 pub questions_send : IsSend questions.the_row
-questions_send = let a = rows_send asked.the_row asked_send in search (sendable, crosses) depth 20
+questions_send = let a = asked_send in let v = small_vec_send in search (sendable, crosses) depth 20
 
 pub piece_send : IsSend piece.the_row
-piece_send = search (sendable, crosses) depth 20
+piece_send = let v = small_vec_send in search (sendable, crosses) depth 20
 
 module _ (V D E O : RattleType) (j : journal.Ghosts V.Denot D.Denot E.Denot O.Denot) (d : decider.Ghosts D.Denot) where
   pub seat_send : IsSend V → IsSend (seat.the_row V D E O j d)

@@ -1,3 +1,4 @@
 pub mod Gates
 pub mod Rights
+pub mod ShortLists
 pub mod Stations

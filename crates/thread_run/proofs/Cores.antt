@@ -50,7 +50,7 @@ port_opening_send = let r = rows_send in search (sendable, crosses) depth 60
 
 module _ (F : RattleType) (g : callback.Ghosts F.Denot) (f : IsSend F) where
   files_send : IsSend (files.the_row F g)
-  files_send = let o = file_opening_send in let t = tree_send in let h = grants_send F g f in search (sendable, crosses) depth 60
+  files_send = let o = file_opening_send in let t = tree_send in let h = grants_send F g f in search (sendable, crosses) depth 60 fits 100000
 
   pub file_core_send : IsSend (file_core.the_row F g)
   file_core_send = let a = files_send in search (sendable, crosses) depth 60
