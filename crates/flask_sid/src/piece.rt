@@ -8,10 +8,10 @@ use smallvec::SmallVec;
 use std::alloc::Global;
 use std::marker::Model;
 
-/// A growing text or datum, which contracts see as the list of its bytes. Up to 24 bytes lie in the value itself.
+/// A growing text or datum, which contracts see as the list of its bytes. Up to 16 bytes lie in the value itself.
 #[derive(Debug, Drop)]
 pub struct Piece {
-    bytes: SmallVec<u8, 24>,
+    bytes: SmallVec<u8, 16>,
 }
 
 impl Model for Piece {
