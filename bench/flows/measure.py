@@ -1,19 +1,21 @@
 """Shortest paths of flows and entries, and `flaskd flow` as a whole command.
 
-Both programs find the same paths in a policy of 128 types, each with a context, and must tell the same hops. A dense policy is drawn, where
-most paths have one hop, a sparse one, where they are long or there is none, and a chain, in which each type can write to the next alone. The
-whole command is measured less the start of the process, which is that of words that are no command.
+Both programs find the paths between all pairs of 128 types, each with a context, and must tell the same hops. One policy is drawn, where paths
+have a few hops; in one most have a single hop; and in a chain each type can write to the next alone. The figure of a pair is the least of its
+runs, and shown are the median pair and the slowest. The whole command is measured less the start of the process, which is that of words that
+are no command.
 """
 
 import os
 import random
+import statistics
 import subprocess
 
 import timing
 
-RUNS = 11
+RUNS = 5
 CRATES = "flow_query policy_versions policy_text flask_sid"
-ROUNDS = 1024
+PAIRS = 128 * 128
 WRITES = ("file write", "file append", "dir add_name", "process signal", "port send")
 
 
@@ -39,8 +41,25 @@ def chain():
     return policy([f"allow k{k} k{k + 1} file write" for k in range(127)] + [f"allow k{k % 128} k0 file unlink" for k in range(897)])
 
 
+def pairs(program, work, text, runs):
+    """For each pair of types the least nanoseconds of its runs, and what the program told of the paths."""
+    figures, said = [], []
+    for _ in range(runs):
+        words = timing.told(program, (work, PAIRS), text)
+        figures.append([int(word) for word in words[::2]])
+        said.append(words[1::2])
+    return [min(pair) for pair in zip(*figures)], said
+
+
 def shown(figures):
-    return timing.shown(figures, 1_000, 1) + " us"
+    return f"{statistics.median(figures) / 1_000:.1f} / {max(figures) / 1_000:.1f} us"
+
+
+def path_row(programs, work, name, text, runs):
+    proved, told = pairs(programs.proved, work, text, runs)
+    plain, said = pairs(programs.plain, work, text, runs)
+    timing.agreed(name, {tuple(words) for words in told + said})
+    timing.row(name, shown(proved), shown(plain), timing.ratio(proved, plain))
 
 
 def command(program, words, text, count):
@@ -53,13 +72,11 @@ def command(program, words, text, count):
 
 
 def measure(programs, asked):
-    timing.head("piece of work", "proved, best / median", "plain Rust", "ratio of medians")
+    timing.head("piece of work", "proved, median / slowest pair", "plain Rust", "ratio of medians")
     texts = (("128 types, 1,024 lines, 896 hops", drawn(896, 128)), ("all of one hop", dense()), ("a chain of 128 types", chain()))
     for name, text in texts:
-        proved, plain = timing.both(programs, ("flow", ROUNDS), ROUNDS, asked.runs, text)
-        timing.row(f"a path of flows, {name}", shown(proved), shown(plain), timing.ratio(proved, plain))
-    proved, plain = timing.both(programs, ("enter", ROUNDS), ROUNDS, asked.runs, texts[0][1])
-    timing.row("a path of entries, 128 types, 128 hops", shown(proved), shown(plain), timing.ratio(proved, plain))
+        path_row(programs, "flow", f"a path of flows, {name}", text, asked.runs)
+    path_row(programs, "enter", "a path of entries, 128 types, 128 hops", texts[0][1], asked.runs)
     for name, text in texts:
         whole = [command(asked.program, ("flow", "0", "k3", "k77"), text.encode(), 100) for _ in range(asked.runs)]
         start = [command(asked.program, (), b"", 100) for _ in range(asked.runs)]

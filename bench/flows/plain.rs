@@ -2,13 +2,13 @@
 //! the end level by level, and a walk from the beginning. Every type is a node.
 //!
 //! `plain_flows WORK ROUNDS` reads a policy text from standard input, finds a shortest path ROUNDS times, of flows or of entries, and prints
-//! the nanoseconds of a processor that it took, and a sum that tells the paths' hops.
+//! for each the nanoseconds of a processor that it took, and a sum that tells the path's hops.
 #[path = "../plain_policy.rs"]
 mod plain_policy;
 
 use plain_policy::{Rows, cell, compile, read};
 use std::io::Read;
-use std::{env, fs, io};
+use std::{env, io};
 
 // By which permissions information flows: class, index, and whether it goes to the target.
 const FLOWS: [(u8, u32, bool); 18] = [
@@ -64,10 +64,15 @@ fn shortest(rows: &Rows, routes: &[(u8, u32, bool)], nodes: &[u8], from: u8, to:
     Some(path)
 }
 
-// The time that this program has had on a processor.
-fn processor() -> u64 {
-    let text = fs::read_to_string("/proc/thread-self/schedstat").unwrap();
-    text.split(' ').next().unwrap().parse().unwrap()
+unsafe extern "C" {
+    fn clock_gettime(clock: i32, time: *mut [i64; 2]) -> i32;
+}
+
+// The time that this thread has had on a processor.
+fn processor() -> i64 {
+    let mut time = [0, 0];
+    unsafe { clock_gettime(3, &mut time) };
+    time[0] * 1_000_000_000 + time[1]
 }
 
 fn main() {
@@ -80,17 +85,16 @@ fn main() {
     let rows = compile(&policy);
     let routes: &[(u8, u32, bool)] = if work == "enter" { &ENTRIES } else { &FLOWS };
     let nodes: Vec<u8> = (0..policy.kinds.len()).map(|place| place as u8).collect();
-    let begun = processor();
-    let mut sum = 0u64;
     for round in 0..rounds {
         let (from, to) = ((round % 128) as u8, (round / 128 % 128) as u8);
-        let found = match std::hint::black_box(shortest(&rows, routes, &nodes, from, to)) {
-            None => 1,
-            Some(path) => path.iter().fold(2u64, |sum, (s, t, index)| {
+        let begun = processor();
+        let found = std::hint::black_box(shortest(&rows, routes, &nodes, from, to));
+        let took = processor() - begun;
+        let sum = found.map_or(1, |path| {
+            path.iter().fold(2u64, |sum, (s, t, index)| {
                 [u64::from(*s), u64::from(*t), u64::from(*index)].iter().fold(sum, |sum, part| sum.wrapping_mul(131).wrapping_add(*part))
-            }),
-        };
-        sum = sum.wrapping_mul(31).wrapping_add(found);
+            })
+        });
+        println!("{took} {sum}");
     }
-    println!("{} {sum}", processor() - begun);
 }

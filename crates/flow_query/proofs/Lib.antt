@@ -2,3 +2,4 @@ pub mod Numbers
 pub mod LevelLemmas
 pub mod WalkLemmas
 pub mod NodeLemmas
+pub mod ReachLemmas

@@ -1,20 +1,28 @@
 -- The nodes of a policy, and how they are found.
-use Rattle.std.proofs.Common.{◌≡◌, ◌<◌, ◌+◌, ◌⊎◌, inl, inr, ℕ, zero, suc, Bool, true, false, eqb, List, [], ◌∷◌, ◌++◌, length, drop, Option, Some, None, refl, sym, ap, subst, ◌∙◌, arith}
-use Rattle.std.specs.Prelude.{◌||◌, slice_get}
+use Rattle.std.proofs.Common.{◌≡◌, ◌<◌, ◌≤◌, ◌+◌, ◌⊎◌, inl, inr, ℕ, zero, suc, Bool, true, false, eqb, List, [], ◌∷◌, ◌++◌, length, drop, take, get_or, set, Option, Some, None, refl, sym, ap, subst, ◌∙◌, arith, ⊎_elim, get_or-set_same, get_or-set_other}
+use Rattle.std.specs.Prelude.{◌||◌, ◌&&◌, ◌==◌, not, nat_lt, slice_get}
 use Rattle.std.specs.List.{list_any, find}
 use Rattle.std.specs.Option.{option_map}
-use Rattle.std.proofs.lemmas.Bool.{cases_Bool, or_cases, or_left, or_right, eqb-true, eq-eqb}
+use Rattle.std.specs.Str.{bytes_eq}
+use Rattle.std.proofs.lemmas.Bool.{cases_Bool, cases_eq, cases_lt, or_cases, or_left, or_right, eqb-true, eq-eqb, lt-ltb, false_from_ne_true}
+use Rattle.std.proofs.lemmas.List.{get_or_past, drop_all}
 use Rattle.std.proofs.lemmas.Bool.Decides.{nat_tests}
 use Rattle.flask_sid.specs.declared.context.ContextOf.{ContextOf}
 use Rattle.policy_model.specs.declared.policy.PolicyParts.{PolicyParts}
-use Rattle.policy_model.specs.Kept.{Kept}
-use Rattle.policy_versions.proofs.KindLemmas.{kinds_few}
+use Rattle.flask_sid.specs.Names.{is_name_form, is_kind_form}
+use Rattle.policy_model.specs.declared.policy.KindLine.{KindLine}
+use Rattle.policy_model.specs.Kept.{Kept, MayKind, is_kind_name}
+use Rattle.policy_versions.specs.Places.{kind_at}
+use Rattle.policy_versions.specs.Sets.{has_place}
+use Rattle.policy_versions.proofs.GrowsLemmas.{grows_at}
+use Rattle.policy_versions.proofs.KindLemmas.{kinds_few, kinds_apart, no_kind, same_name, name_same}
 use Rattle.flow_query.specs.declared.route.Way.TheVariants.{Writing, Reading}
 use Rattle.flow_query.specs.declared.hop.Hop.{Hop}
 use Rattle.flow_query.specs.Routes.{Route, routes}
-use Rattle.flow_query.specs.Hops.{is_node, hop_along, is_open, hop_between}
+use Rattle.flow_query.specs.Hops.{has_type, is_node, hop_along, is_open, hop_between}
 use Rattle.flow_query.specs.Paths.{Graph, Query, graph_of}
 use Rattle.flow_query.proofs.LevelLemmas.{AreLabelled}
+use Rattle.flow_query.specs.Reaches.{AreMarks}
 use Rattle.flow_query.specs.Levels.{has_number, IsBelowAll, IsAscending, AreAllNodes}
 
 -- a node is a declared type
@@ -141,3 +149,85 @@ found_labelled from to None hop is = absurd cc
 pub labelled : (query : Query) → AreLabelled (graph_of query)
 unfolding hop_between
 labelled query from to hop is = found_labelled from to (find (is_open query.policy query.version from to) (routes query.kind)) hop is
+
+-- a name that is declared is not empty
+unnamed : (policy : PolicyParts) (place : ℕ) → Kept policy → place < length policy.kinds → kind_at policy place ≡ [] → ⊥
+unfolding is_kind_name is_kind_form is_name_form
+unnamed policy place kept within empty =
+    let may : MayKind (take place policy.kinds) (get_or policy.kinds place no_kind) = grows_at MayKind [] policy.kinds kept.grown.kinds place no_kind within in
+    let named : is_kind_name (kind_at policy place) ≡ true = may.named in
+    let clash : false ≡ true = sym (ap is_kind_name empty) ∙ named in
+    absurd cc
+
+-- a declared type has the name of no other place
+one_place : (policy : PolicyParts) (kind place : ℕ) → Kept policy → place < length policy.kinds → kind_at policy kind ≡ kind_at policy place → place ≡ kind
+one_place policy kind place kept within same =
+    ⊎_elim
+    (λ low. kinds_apart policy kept place kind within low (sym same))
+    (λ past.
+    let none : get_or policy.kinds kind no_kind ≡ no_kind = get_or_past policy.kinds kind no_kind past in
+    absurd (unnamed policy place kept within (sym same ∙ ap (λ (k : KindLine). k.name) none)))
+    (cases_lt kind (length policy.kinds))
+
+-- marks of the types of the contexts below a place: with those of the contexts from there on they are those of all
+abbrev pub MarksBelow : PolicyParts → List (ContextOf (List ℕ)) → ℕ → List ℕ → Type 0
+MarksBelow policy contexts i marks =
+    (place : ℕ) → place < length policy.kinds → (has_place marks place || has_type (drop i contexts) (kind_at policy place)) ≡ has_type contexts (kind_at policy place)
+
+-- none yet
+pub marks_begun : (policy : PolicyParts) (contexts : List (ContextOf (List ℕ))) (marks : List ℕ) → ((place : ℕ) → has_place marks place ≡ false) → MarksBelow policy contexts 0 marks
+marks_begun policy contexts marks none place within = ap (λ b. b || has_type contexts (kind_at policy place)) (none place)
+
+-- what is left of a list from a place on begins with what stands there
+drop_at : {X : Type 0} (xs : List X) (i : ℕ) (d : X) → i < length xs → drop i xs ≡ get_or xs i d ∷ drop (suc i) xs
+drop_at [] i d within = absurd (omega (arith, within))
+drop_at (y ∷ ys) zero d within = refl
+drop_at (y ∷ ys) (suc i) d within = drop_at ys i d (omega (arith, within))
+
+-- two tests are one
+either_or : (a b c : Bool) → ((a || b) || c) ≡ (a || (b || c))
+either_or true b c = refl
+either_or false b c = refl
+
+or_false : (a : Bool) → (a || false) ≡ a
+or_false true = refl
+or_false false = refl
+
+-- the mark of a type is put: it is that of each declared type of this name
+put_mark : (policy : PolicyParts) (marks name : List ℕ) (kind place : ℕ) → Kept policy → place < length policy.kinds → kind < length marks → kind_at policy kind ≡ name
+    → has_place (set marks kind 65535) place ≡ (has_place marks place || bytes_eq name (kind_at policy place))
+put_mark policy marks name kind place kept declared marked named =
+    ⊎_elim
+    (λ same.
+    let put : get_or (set marks kind 65535) place 0 ≡ 65535 = ap (λ n. get_or (set marks kind 65535) n 0) same ∙ get_or-set_same marks kind 65535 0 marked in
+    let is : bytes_eq name (kind_at policy place) ≡ true = name_same name (kind_at policy place) (sym named ∙ ap (kind_at policy) (sym same)) in
+    ap (λ word. not (word == 0)) put ∙ sym (or_right (has_place marks place) (bytes_eq name (kind_at policy place)) is))
+    (λ apart.
+    let is : bytes_eq name (kind_at policy place) ≡ false =
+    false_from_ne_true (bytes_eq name (kind_at policy place)) (λ equal. apart (one_place policy kind place kept declared (named ∙ same_name name (kind_at policy place) equal))) in
+    ap (λ word. not (word == 0)) (get_or-set_other marks kind place 65535 0 apart) ∙ sym (ap (λ b. has_place marks place || b) is ∙ or_false (has_place marks place)))
+    (cases_eq place kind)
+
+-- the type of one context more
+pub marks_more : (policy : PolicyParts) (contexts : List (ContextOf (List ℕ))) (marks : List ℕ) (i kind : ℕ) (d : ContextOf (List ℕ)) → Kept policy → i < length contexts
+    → kind_at policy kind ≡ (get_or contexts i d).kind → kind < length marks → MarksBelow policy contexts i marks → MarksBelow policy contexts (i + 1) (set marks kind 65535)
+marks_more policy contexts marks i kind d kept within named marked below place declared =
+    let name = kind_at policy place in
+    let here = bytes_eq (get_or contexts i d).kind name in
+    let rest = has_type (drop (i + 1) contexts) name in
+    let next : suc i ≡ i + 1 = omega arith in
+    let step : has_type (drop i contexts) name ≡ (here || rest) =
+    ap (list_any (λ (context : ContextOf (List ℕ)). bytes_eq context.kind name)) (drop_at contexts i d within) ∙ ap (λ n. here || has_type (drop n contexts) name) next in
+    ap (λ b. b || rest) (put_mark policy marks (get_or contexts i d).kind kind place kept declared marked named)
+    ∙ either_or (has_place marks place) here rest
+    ∙ ap (λ b. has_place marks place || b) (sym step)
+    ∙ below place declared
+
+-- the types of all contexts
+pub all_marked : (policy : PolicyParts) (contexts : List (ContextOf (List ℕ))) (marks : List ℕ) (i : ℕ) → length contexts ≤ i → MarksBelow policy contexts i marks → AreMarks policy contexts marks
+unfolding is_node
+all_marked policy contexts marks i past below place declared =
+    let none : drop i contexts ≡ [] = drop_all i contexts past in
+    let low : nat_lt place (length policy.kinds) ≡ true = lt-ltb place (length policy.kinds) declared in
+    sym (or_false (has_place marks place)) ∙ ap (λ cs. has_place marks place || has_type cs (kind_at policy place)) (sym none) ∙ below place declared
+    ∙ ap (λ b. b && has_type contexts (kind_at policy place)) (sym low)

@@ -1,6 +1,6 @@
 //! Where hops are found: the graph of a version, as the compiled rows tell it.
 
-ghost use Rattle.std.specs.Prelude.{◌≡◌, ◌<◌, true, IfOk};
+ghost use Rattle.std.specs.Prelude.{◌≡◌, ◌<◌, true, false, None, IfOk};
 ghost use Rattle.policy_versions.specs.Compiling.{IsCatalogueOf, sids_of};
 ghost use Rattle.flow_query.specs.Routes;
 ghost use Rattle.flow_query.specs.Hops;
@@ -8,16 +8,19 @@ ghost use Rattle.flow_query.specs.Paths.{graph_of};
 ghost use Rattle.flow_query.specs.Levels.{AreNodes, AreAllNodes, first_hop};
 
 use crate::hop::Hop;
-use crate::nodes::is_node;
+use crate::nodes::marks_of;
+use crate::reach::type_at;
 use crate::route::{Kind, Route, Way};
+use crate::words::Reach;
 use access_vectors::Perm;
 use flask_sid::{Memory, SidTable};
 use policy_model::PolicyText;
-use policy_versions::{Catalogue, Kind as Type, VectorRows};
+use policy_versions::{Catalogue, VectorRows};
 use std::alloc::Global;
 use std::marker::Model;
 
-/// The graph of a version. Contracts see its nodes and its hops.
+/// The graph of a version. Contracts see its nodes and its hops. Marks tell which types are nodes, and words between which
+/// of them no hop leads.
 #[derive(Drop)]
 pub(crate) struct Finder<'p> {
     policy: &'p PolicyText,
@@ -26,6 +29,9 @@ pub(crate) struct Finder<'p> {
     routes: &'p [Route],
     version: u8,
     kind: Kind,
+    marks: [u16; 128],
+    writing: Reach,
+    reading: Reach,
 }
 
 impl<'p> Model for Finder<'p> {
@@ -33,35 +39,46 @@ impl<'p> Model for Finder<'p> {
     ghost use Rattle.policy_versions.specs.Vectors.{AreVectorsOf};
     ghost use Rattle.flow_query.specs.Routes;
     ghost use Rattle.flow_query.specs.Paths.{Query};
+    ghost use Rattle.flow_query.specs.Reaches.{AreMarks, Tells};
+    ghost use Rattle.flow_query.specs.declared.route.Way.TheVariants.{Writing, Reading};
 
     ghost Value = { Query };
 
     ghost view = { λ finder. record { policy = finder.policy.now; contexts = finder.sids.now; version = finder.version; kind = finder.kind } };
 
-    ghost invariant = { λ finder. AreVectorsOf finder.policy.now finder.rows.now × (finder.routes.now ≡ Routes.routes finder.kind) };
+    ghost invariant = { λ finder. AreVectorsOf finder.policy.now finder.rows.now × (finder.routes.now ≡ Routes.routes finder.kind)
+        × AreMarks finder.policy.now finder.sids.now finder.marks × Tells finder.writing finder.rows.now finder.version finder.routes.now Writing
+        × Tells finder.reading finder.rows.now finder.version finder.routes.now Reading };
 }
 
 impl<'p> Finder<'p> {
     /// The graph of a version of a policy, which was compiled, by the routes of a kind.
     pub(crate) fn new(
+        alloc: Global,
         policy: &'p PolicyText,
         catalogue: &'p Catalogue,
         routes: &'p [Route],
-        version: u8,
-        kind: Kind,
-    ) -> Finder<'p>
+        asked: (u8, Kind),
+    ) -> Result<Finder<'p>, Memory>
         requires compiled { IsCatalogueOf policy.now catalogue.now }
-        requires routes { routes.now ≡ Routes.routes kind }
-        ensures { result ≡ record { policy = policy.now; contexts = sids_of catalogue.now; version = version; kind = kind } }
+        requires routes { routes.now ≡ Routes.routes asked.1 }
+        ensures { IfOk result (λ finder. finder ≡ record { policy = policy.now; contexts = sids_of catalogue.now; version = asked.0; kind = asked.1 }) }
     {
-        Finder {
+        let (version, kind) = asked;
+        let rows = catalogue.vectors();
+        let writing = Reach::of(alloc, rows, version, routes, Way::Writing)?;
+        let reading = Reach::of(alloc, rows, version, routes, Way::Reading)?;
+        Ok(Finder {
             policy,
             sids: catalogue.sids(),
-            rows: catalogue.vectors(),
+            rows,
             routes,
             version,
             kind,
-        }
+            marks: marks_of(policy, catalogue),
+            writing,
+            reading,
+        })
     }
 }
 
@@ -72,7 +89,7 @@ impl Finder<'_> {
     {
         let mut nodes = Vec::new(alloc);
         'places: for place in 0..self.policy.parts().kinds.len() {
-            if is_node(self.policy, self.sids, place) {
+            if self.marks[place] != 0 {
                 nodes.push(place as u8)?;
             }
         }
@@ -100,10 +117,23 @@ impl Finder<'_> {
         requires to { (graph_of self.now).node to ≡ true }
         ensures { result ≡ (graph_of self.now).hop from to }
     {
+        if !self.may_lead(from, to) {
+            return None;
+        }
         self.routes
             .iter()
             .find(|route| self.is_open(from, to, **route))
             .map(|route| hop_along(from, to, *route))
+    }
+
+    // Whether a hop may lead from one node to another: where not, none does.
+    fn may_lead(&self, from: u8, to: u8) -> bool
+        requires from { (graph_of self.now).node from ≡ true }
+        requires to { (graph_of self.now).node to ≡ true }
+        ensures { result ≡ false → (graph_of self.now).hop from to ≡ None }
+    {
+        let _declared = self.policy.parts();
+        self.writing.meets(from, to) || self.reading.meets(to, from)
     }
 
     // Whether the version allows the question by which a route leads from one node to another.
@@ -131,17 +161,6 @@ impl Finder<'_> {
         self.rows
             .cell(self.version, type_at(s), type_at(t), perm.class())
             .has(perm.index())
-    }
-}
-
-// The type at a place.
-fn type_at(place: u8) -> Type
-    requires { place < 128 }
-    ensures { result ≡ place }
-{
-    match Type::of(usize::from(place)) {
-        Some(found) => found,
-        None => unreachable!(),
     }
 }
 

@@ -89,7 +89,7 @@ fn split(
     ensures farther { IfOk result (λ parts. parts.1.items ≡ filter (λ from. not (is_some (first_hop ((graph_of finder.now).hop from) level.now))) rest.now) }
 {
     let mut nearer = Vec::new(alloc);
-    let mut farther = Vec::new(alloc);
+    let mut farther = Vec::with_capacity(alloc, rest.len())?;
     'rest: for from in rest {
         if finder.first_hop(*from, level).is_some() {
             nearer.push(*from)?;

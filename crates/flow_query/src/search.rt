@@ -39,7 +39,7 @@ pub fn shortest(
         Kind::Flow => &flows,
         Kind::Enter => &entries,
     };
-    let finder = Finder::new(p, c, routes, ver, kind);
+    let finder = Finder::new(alloc, p, c, routes, (ver, kind))?;
     match levels_below(alloc, &finder, from, to)? {
         None => Ok(None),
         Some(levels) => Ok(Some(Path::of(walk(alloc, &finder, levels, from, to)?))),

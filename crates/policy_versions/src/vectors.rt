@@ -1,6 +1,6 @@
 //! The permissions that each version gives a source type on a target type.
 
-ghost use Rattle.std.specs.Prelude.{◌≡◌, ℕ, ◌<◌, true, false, bit_and, IfOk};
+ghost use Rattle.std.specs.Prelude.{◌≡◌, ℕ, ◌<◌, true, false, slice_index, bit_and, IfOk, MatchOption};
 ghost use Rattle.policy_versions.specs.Sets.{has_place};
 ghost use Rattle.policy_versions.specs.Kinds.{AreKindsOf};
 ghost use Rattle.policy_versions.specs.Vectors.{AreVectorsOf, vector_at};
@@ -36,6 +36,18 @@ impl VectorRows {
         ensures { result ≡ vector_at self.now version s t class }
     {
         Vector::of(self.table.cell(version, s, t, class))
+    }
+
+    /// The vectors of a class that a source has in a version, by the places of the targets: `None` only for a version that is
+    /// not there, in which it has no permission.
+    pub fn row(&self, version: u8, s: Kind, class: Class) -> Option<&[u16; 128]>
+        ensures { MatchOption result ((t : ℕ) → vector_at self.now version s t class ≡ 0)
+            (λ row. (t : ℕ) → vector_at self.now version s t class ≡ slice_index row.now t) }
+    {
+        match self.table.row(version, s, class) {
+            None => None,
+            Some(row) => Some(&row.cells),
+        }
     }
 
     /// Whether, in a version, a source may have one of these permissions of a class on some target in a set: where not,
