@@ -1,0 +1,54 @@
+//! Changes of policy, in a thread beside the callers.
+
+use managed::Managed;
+use manager_history::Ack;
+use std::alloc::Global;
+use std::sync::Wait;
+use thread_tasks::Task;
+
+/// Changes to version 1 and back in turn.
+#[derive(Clone, Copy, Debug)]
+pub(crate) struct Changes;
+
+/// The administrator's place: the manager, how many changes it makes, and how many of them were settled.
+#[derive(Drop)]
+pub(crate) struct Place<M: Managed + Drop> {
+    pub(crate) held: M,
+    pub(crate) times: u32,
+    pub(crate) settled: u32,
+}
+
+/// Lets slots follow and tries to acknowledge until the change is settled.
+fn settle<M: Managed, R: Wait>(rt: &R, held: &mut M) -> bool
+    ensures { M.same held.old held.new }
+{
+    'tries: for _ in rt.forever() {
+        let _left = held.update(rt, 64);
+        if let Ack::Done(_) = held.acknowledge(rt) {
+            return true;
+        }
+    }
+    false
+}
+
+/// The administrator makes its changes, one after another.
+impl<M: Managed + Drop> Task<Place<M>> for Changes {
+    ghost may = { λ changes place. Unit {0} };
+
+    ghost did = { λ changes was now. M.same was.held now.held };
+
+    fn run<R: Wait>(&self, rt: &R, alloc: Global, own: &mut Place<M>) {
+        'changes: for number in 0..own.times {
+            if own
+                .held
+                .notify(rt, alloc, u8::from(number % 2 == 0))
+                .is_err()
+            {
+                return;
+            }
+            if settle(rt, &mut own.held) {
+                own.settled = own.settled.saturating_add(1);
+            }
+        }
+    }
+}
