@@ -13,15 +13,16 @@ pub enum Class {
     Security = 5,
 }
 
-const CLASSES: [Class; 5] = [
-    Class::File,
-    Class::Dir,
-    Class::Process,
-    Class::Port,
-    Class::Security,
-];
-
 impl Class {
+    /// All classes, in the order of their codes.
+    pub const ALL: [Class; 5] = [
+        Class::File,
+        Class::Dir,
+        Class::Process,
+        Class::Port,
+        Class::Security,
+    ];
+
     /// The code of the class, from 1 to 5.
     pub fn code(self) -> u8
         ensures { result ≡ code_of self }
@@ -34,7 +35,10 @@ impl Class {
     pub fn of_code(code: u8) -> Option<Class>
         ensures { result ≡ class_coded code }
     {
-        CLASSES.iter().copied().find(|class| class.code() == code)
+        Class::ALL
+            .iter()
+            .copied()
+            .find(|class| class.code() == code)
     }
 
     /// How many permissions the class has.
@@ -69,7 +73,7 @@ pub fn class_name(class: Class) -> &'static str
 pub fn class_of(name: &[u8]) -> Option<Class>
     ensures { result ≡ class_named name.now }
 {
-    CLASSES
+    Class::ALL
         .iter()
         .copied()
         .find(|class| class_name(*class).as_bytes() == name)

@@ -24,14 +24,6 @@ use policy_model::{KindLine, PolicyParts, PolicyText};
 use std::alloc::Global;
 use std::marker::Model;
 
-const CLASSES: [Class; 5] = [
-    Class::File,
-    Class::Dir,
-    Class::Process,
-    Class::Port,
-    Class::Security,
-];
-
 /// What is learned from: a policy, the contexts of its identifiers, and questions with their answers.
 #[derive(Drop)]
 pub(crate) struct Denials<'q> {
@@ -174,7 +166,7 @@ impl<'q> Denials<'q> {
         requires target { t < length self.now.policy.kinds }
         ensures { OnOk result (grants.new ≡ grants.old ++ Grants.grants_between list self.now s t) }
     {
-        let all: &[Class] = &CLASSES;
+        let all: &[Class] = &Class::ALL;
         'classes: for class in all {
             let class = *class;
             let perms = self.vector(list, s, t, class);
