@@ -7,6 +7,7 @@ ghost use Rattle.example_board.specs.Plain.{IsCall};
 ghost use Rattle.station_threads.specs.Seated.{IsFreeAt};
 
 use crate::board::{Board, Chair, Office, called};
+use crate::pace::Pace;
 use access_vectors::{Decider, Vector};
 use example_board::{BoardCall, BoardReply};
 use std::alloc::Global;
@@ -21,12 +22,13 @@ pub(crate) enum Work {
     Uses,
 }
 
-/// What the callers share: the board, of two clients, what each does, and how often.
+/// What the callers share: the board, of two clients, what each does, and how often, and at which pace.
 #[derive(Drop)]
 pub(crate) struct Script<'s, 'd, D: Decider> {
     pub(crate) board: &'s Board<'d, D>,
     pub(crate) work: Work,
     pub(crate) calls: u32,
+    pub(crate) pace: &'s Pace,
     pub(crate) ghost two: { length board.now.fixed.opening.core.opening.clients ≡ 2 },
 }
 
@@ -89,8 +91,10 @@ impl<'s, 'd, D: Decider> Task<Caller<'d, D>> for Script<'s, 'd, D> {
 
     fn run<R: Wait>(&self, rt: &R, alloc: Global, own: &mut Caller<'d, D>) {
         'calls: for mark in 0..self.calls {
+            self.pace.before_call(mark);
             let asked = (mark, call_of(self.work, mark));
             let reply = called(rt, alloc, self.board, &mut own.seat, asked);
+            self.pace.note_call();
             let denied = is_taken(reply);
             own.regained |= own.denied && !denied;
             own.denied = denied;

@@ -1,14 +1,17 @@
 //! Changes of policy, in a thread beside the callers.
 
+use crate::pace::Pace;
 use managed::Managed;
 use manager_history::Ack;
 use std::alloc::Global;
 use std::sync::Wait;
 use thread_tasks::Task;
 
-/// Changes to version 1 and back in turn.
-#[derive(Clone, Copy, Debug)]
-pub(crate) struct Changes;
+/// Changes to version 1 and back in turn, at a pace.
+#[derive(Drop)]
+pub(crate) struct Changes<'p> {
+    pub(crate) pace: &'p Pace,
+}
 
 /// The administrator's place: the manager, how many changes it makes, and how many of them were settled.
 #[derive(Drop)]
@@ -32,13 +35,14 @@ fn settle<M: Managed, R: Wait>(rt: &R, held: &mut M) -> bool
 }
 
 /// The administrator makes its changes, one after another.
-impl<M: Managed + Drop> Task<Place<M>> for Changes {
+impl<'p, M: Managed + Drop> Task<Place<M>> for Changes<'p> {
     ghost may = { λ changes place. Unit {0} };
 
     ghost did = { λ changes was now. M.same was.held now.held };
 
     fn run<R: Wait>(&self, rt: &R, alloc: Global, own: &mut Place<M>) {
         'changes: for number in 0..own.times {
+            self.pace.before_change(number);
             if own
                 .held
                 .notify(rt, alloc, u8::from(number % 2 == 0))
@@ -48,6 +52,7 @@ impl<M: Managed + Drop> Task<Place<M>> for Changes {
             }
             if settle(rt, &mut own.held) {
                 own.settled = own.settled.saturating_add(1);
+                self.pace.note_change();
             }
         }
     }

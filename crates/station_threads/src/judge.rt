@@ -10,7 +10,8 @@ use manager_history::Entry;
 use std::alloc::{AllocError, Global};
 
 /// Where the plain board stands behind some entries: the version of each policy number, the settled one, the number on the board, and of each
-/// client the mode of slot 0, which is 0 where the slot is free, and how many calls it made.
+/// client the mode of slot 0, which is 0 where the slot is free, and how many calls it made; and how often a call had another policy number than
+/// the one before it.
 #[derive(Drop)]
 pub(crate) struct Plain {
     versions: Vec<u8>,
@@ -18,6 +19,8 @@ pub(crate) struct Plain {
     posted: u32,
     modes: [u16; 2],
     pub(crate) calls: [u32; 2],
+    last: u32,
+    pub(crate) moves: u32,
 }
 
 /// Whose operation an entry is, with the caller's mark of it and the policy number.
@@ -106,6 +109,8 @@ impl Plain {
             posted: 0,
             modes: [0; 2],
             calls: [0; 2],
+            last: 0,
+            moves: 0,
         })
     }
 
@@ -171,6 +176,10 @@ impl Plain {
             return false;
         }
         self.calls[client] = mark.wrapping_add(1);
+        if number != self.last {
+            self.moves = self.moves.wrapping_add(1);
+        }
+        self.last = number;
         let Some(version) = self.version(number) else {
             return false;
         };

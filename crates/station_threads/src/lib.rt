@@ -11,6 +11,8 @@ mod changes;
 #[cfg(test)]
 mod judge;
 #[cfg(test)]
+mod pace;
+#[cfg(test)]
 mod run;
 #[cfg(test)]
 mod tests;

@@ -48,7 +48,8 @@ fn run_both<'d, R: Threads + Wait + Sync, D: Decider + Sync, M: Managed + Send +
         task: script,
         each: callers,
     };
-    run_beside(rt, alloc, crew, &Changes, place)
+    let changes = Changes { pace: script.pace };
+    run_beside(rt, alloc, crew, &changes, place)
 }
 
 /// Runs the callers' work beside so many changes of their board. Answers the callers, the administrator, and how many changes were

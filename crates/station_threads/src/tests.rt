@@ -3,6 +3,7 @@
 use crate::board::{Versions, opened};
 use crate::callers::{Script, Work, seated};
 use crate::judge::judged;
+use crate::pace::Pace;
 use crate::run::{retire_all, work, work_beside};
 use access_vectors::Questions;
 use example_board::{BoardCall, BoardReply};
@@ -10,11 +11,14 @@ use manager_history::Entry;
 use std::alloc::Global;
 use std::test::Fail;
 
-/// How many calls each caller makes beside the changes.
-const CALLS: u32 = 2000;
-
 /// How many changes there are beside the callers.
 const CHANGES: u32 = 50;
+
+/// How many calls each caller makes beside each of them.
+const STEP: u32 = 40;
+
+/// How many calls each caller makes.
+const CALLS: u32 = 2000;
 
 #[test]
 fn a_change_takes_a_right_from_callers_at_work(rt: HostRuntime) -> Result<(), Fail> {
@@ -22,16 +26,20 @@ fn a_change_takes_a_right_from_callers_at_work(rt: HostRuntime) -> Result<(), Fa
     let decider = Versions;
     let (board, mut office) = opened(alloc, &decider).ok_or("memory")?;
     let callers = seated(alloc, &board, &mut office).ok_or("seats")?;
+    let free = Pace::of(0);
     let opens = Script {
         board: &board,
         work: Work::Opens,
         calls: 1,
+        pace: &free,
     };
     let callers = work(&rt, alloc, &opens, callers);
+    let pace = Pace::of(STEP);
     let reads = Script {
         board: &board,
         work: Work::Reads,
-        calls: CALLS,
+        calls: 2 * STEP,
+        pace: &pace,
     };
     let done = work_beside(&rt, alloc, &reads, callers, (office, 1));
     let (callers, _office, settled) = done;
@@ -40,6 +48,7 @@ fn a_change_takes_a_right_from_callers_at_work(rt: HostRuntime) -> Result<(), Fa
         board: &board,
         work: Work::Reads,
         calls: 1,
+        pace: &free,
     };
     let callers = work(&rt, alloc, &last, callers);
     assert_eq!(rt; callers.len(), 2);
@@ -57,10 +66,12 @@ fn two_callers_beside_fifty_changes(rt: HostRuntime) -> Result<(), Fail> {
     let decider = Versions;
     let (board, mut office) = opened(alloc, &decider).ok_or("memory")?;
     let callers = seated(alloc, &board, &mut office).ok_or("seats")?;
+    let pace = Pace::of(STEP);
     let uses = Script {
         board: &board,
         work: Work::Uses,
         calls: CALLS,
+        pace: &pace,
     };
     let done = work_beside(&rt, alloc, &uses, callers, (office, CHANGES));
     let (callers, mut office, settled) = done;
@@ -74,6 +85,7 @@ fn two_callers_beside_fifty_changes(rt: HostRuntime) -> Result<(), Fail> {
     let plain = judged(alloc, keeper.entries())?.ok_or("an entry is not lawful")?;
     assert_eq!(rt; plain.calls, [CALLS, CALLS]);
     assert_eq!(rt; plain.settled, CHANGES);
+    assert!(rt; plain.moves >= CHANGES / 2 || !pace.was_kept());
     Ok(())
 }
 
