@@ -26,10 +26,12 @@ const ANSWER: &[u8] = b"10 alice file 0 done
 calls 2 denied 0 changes 0
 ";
 
-/// A source that gives one byte at a time, and tells none.
+/// A source that gives one byte at a time, and tells none; after so many reads each one fails.
 #[derive(Drop)]
 struct Drops<'a> {
     left: &'a [u8],
+    good: u64,
+    faults: u64,
 }
 
 impl Source for Drops<'_> {
@@ -37,9 +39,14 @@ impl Source for Drops<'_> {
 
     ghost left = { λ drops. None };
 
-    ghost faults = { λ drops. 0 };
+    ghost faults = { λ drops. drops.faults };
 
     fn read(&mut self, buf: &mut [u8]) -> Got {
+        if self.good == 0 {
+            self.faults = self.faults.saturating_add(1);
+            return Got::Failed;
+        }
+        self.good = self.good.saturating_sub(1);
         let Some((first, rest)) = self.left.split_first() else {
             return Got::End;
         };
@@ -90,12 +97,14 @@ fn run<'a, R: Threads + Wait + Sync>(
 fn ends_by_the_first_cause(rt: HostRuntime) -> Result<(), Fail> {
     let nothing = &ANSWER[..0];
     let first_line = &ANSWER[..21];
+    let two_lines = &ANSWER[..50];
     for (reads, writes, status, written) in [
         (&[][..], &[][..], Status::Ok, ANSWER),
         (&[1][..], &[], Status::ReadFault, nothing),
         (&[2][..], &[], Status::ReadFault, nothing),
         (&[], &[1][..], Status::WriteFault, nothing),
         (&[], &[2][..], Status::WriteFault, first_line),
+        (&[], &[3][..], Status::WriteFault, two_lines),
     ] {
         let (ended, sink) = run(&rt, rt.alloc(), reads, writes);
         assert_eq!(rt; ended, status);
@@ -105,9 +114,30 @@ fn ends_by_the_first_cause(rt: HostRuntime) -> Result<(), Fail> {
 }
 
 #[test]
+fn a_failed_read_writes_nothing(rt: HostRuntime) -> Result<(), Fail> {
+    let words = [Word::new(b"serial")];
+    for good in 0..20 {
+        let mut source = Drops {
+            left: SMALLEST,
+            good,
+            faults: 0,
+        };
+        let mut sink = MemorySink::new(rt.alloc(), &[]);
+        let ended = flaskd(&rt, rt.alloc(), &words, &mut source, &mut sink, &NoStops);
+        assert_eq!(rt; ended, Status::ReadFault);
+        assert!(rt; sink.bytes().is_empty());
+    }
+    Ok(())
+}
+
+#[test]
 fn slow_ends_change_nothing(rt: HostRuntime) -> Result<(), Fail> {
     let words = [Word::new(b"serial")];
-    let mut source = Drops { left: SMALLEST };
+    let mut source = Drops {
+        left: SMALLEST,
+        good: u64::MAX,
+        faults: 0,
+    };
     let mut sink = Sips {
         taken: Piece::new(rt.alloc()),
         faults: 0,
