@@ -27,7 +27,7 @@ class Programs:
 
     def __init__(self, name, crates):
         """`crates` is what the proved one stands on, as a line of crates.txt has it behind the name. Where the folder has no crate of its own,
-        flaskd itself is measured beside the plain program."""
+        flaskd itself is measured beside the plain program; where it has no plain program, the proved one is looked at alone."""
         self.folder = BENCH / name
         self.crate = f"{name}_bench"
         self.line = f"{self.crate} {crates}" if crates.startswith("may_wait") else f"{self.crate}: {crates}"
@@ -36,7 +36,8 @@ class Programs:
 
     def build(self):
         OUT.mkdir(exist_ok=True)
-        subprocess.run([*RUSTC, str(self.folder / "plain.rs"), "-o", str(self.plain)], check=True)
+        if (self.folder / "plain.rs").is_file():
+            subprocess.run([*RUSTC, str(self.folder / "plain.rs"), "-o", str(self.plain)], check=True)
         if not (self.folder / "proved").is_dir():
             return
         with tempfile.TemporaryDirectory() as place:

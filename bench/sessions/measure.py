@@ -4,12 +4,17 @@
 same summary. The plain one keeps no session for it, so making one is measured alone too. A text to read is drawn: 80,000
 lines that run, of all calls, below 16 clients and 40 files and directories. Both programs read it, or print what they read,
 many times; what they made or read they must print as the same bytes.
+
+Of `flaskd` alone it is measured how long, by the clock, the smallest session's first answer takes, and what memory a session of as many reads of
+1,024 bytes as there may be lines takes at most.
 """
 
 import os
 import random
 import subprocess
 import sys
+import tempfile
+import time
 
 import timing
 
@@ -110,6 +115,49 @@ def text(lines):
     return ABOVE + "\n".join(said) + "\n"
 
 
+STARTS = 300
+DATUM = 1_024
+FULL = f"""policy 1
+context u:r:t
+version
+allow t t file read
+allow t t dir search
+session
+file /a u:r:t {'x' * DATUM}
+client alice u:r:t
+run
+alice file open 0 /a r
+"""
+READS = 100_000 - FULL.count("\n")
+
+
+def first_answers(program):
+    """Milliseconds from a start of the program to the first line of the smallest session's answer, by the clock, for each of many starts."""
+    session, found = (timing.TOP / "examples/smallest.session").read_bytes(), []
+    for _ in range(STARTS):
+        began = time.perf_counter()
+        with subprocess.Popen([program, "serial"], stdin=subprocess.PIPE, stdout=subprocess.PIPE) as child:
+            child.stdin.write(session)
+            child.stdin.close()
+            child.stdout.readline()
+            found.append((time.perf_counter() - began) * 1_000)
+            child.stdout.read()
+    return found
+
+
+def full_memory(program):
+    """The most memory, in KiB, that a session of so many reads took, whose answers are all thrown away."""
+    with tempfile.TemporaryFile() as session, open(os.devnull, "w") as nowhere:
+        session.write((FULL + f"alice file read 0 0 {DATUM}\n" * READS).encode())
+        session.seek(0)
+        child = subprocess.Popen([program, "serial"], stdin=session, stdout=nowhere)
+        _, status, usage = os.wait4(child.pid, 0)
+        child.returncode = os.waitstatus_to_exitcode(status)
+    if child.returncode != 0:
+        sys.exit(f"bench: the full session ended with {child.returncode}")
+    return usage.ru_maxrss
+
+
 def generated(program, lines):
     """The summary of a made session, and the nanoseconds of a processor that the whole program took."""
     words = [str(program), "generate", "7", "8", str(lines)]
@@ -156,3 +204,12 @@ def measure(programs, asked):
         ("print", "a session printed, for each megabyte", megabytes),
     ):
         row(name, *timing.both(programs, (work, ROUNDS), ROUNDS * pieces, asked.runs, session))
+    if flaskd.exists():
+        alone(flaskd)
+
+
+def alone(flaskd):
+    """What is measured of `flaskd` alone."""
+    memory = full_memory(flaskd)
+    print(f"\nThe smallest session's first answer, by the clock: {timing.shown(first_answers(flaskd), digits=2)} ms.")
+    print(f"A session of {READS:,} reads of {DATUM:,} bytes: {memory:,} KiB, {memory * 1024 // READS:,} bytes a read, at most.")

@@ -3,16 +3,4 @@
 #![tactic(auto)]
 
 #[cfg(test)]
-mod board;
-#[cfg(test)]
-mod callers;
-#[cfg(test)]
-mod changes;
-#[cfg(test)]
-mod judge;
-#[cfg(test)]
-mod pace;
-#[cfg(test)]
-mod run;
-#[cfg(test)]
 mod tests;

@@ -1,13 +1,11 @@
 //! The tests.
 
-use crate::board::{Versions, opened};
-use crate::callers::{Script, Work, seated};
-use crate::judge::judged;
-use crate::pace::Pace;
-use crate::run::{retire_all, work, work_beside};
 use access_vectors::Questions;
 use example_board::{BoardCall, BoardReply};
 use manager_history::Entry;
+use station_rounds::{
+    Pace, Script, Versions, Work, judged, opened, run_round, seated, work, work_beside,
+};
 use std::alloc::Global;
 use std::test::Fail;
 
@@ -62,30 +60,12 @@ fn a_change_takes_a_right_from_callers_at_work(rt: HostRuntime) -> Result<(), Fa
 
 #[test]
 fn two_callers_beside_fifty_changes(rt: HostRuntime) -> Result<(), Fail> {
-    let alloc = rt.alloc();
-    let decider = Versions;
-    let (board, mut office) = opened(alloc, &decider).ok_or("memory")?;
-    let callers = seated(alloc, &board, &mut office).ok_or("seats")?;
-    let pace = Pace::of(STEP);
-    let uses = Script {
-        board: &board,
-        work: Work::Uses,
-        calls: CALLS,
-        pace: &pace,
-    };
-    let done = work_beside(&rt, alloc, &uses, callers, (office, CHANGES));
-    let (callers, mut office, settled) = done;
-    assert_eq!(rt; settled, CHANGES);
-    retire_all(&board, callers, &mut office);
-    assert_eq!(rt; office.out(), 0);
-    if office.out() > 0 {
-        return Ok(());
-    }
-    let keeper = board.close(office);
-    let plain = judged(alloc, keeper.entries())?.ok_or("an entry is not lawful")?;
+    let done = run_round(&rt, rt.alloc(), CHANGES, STEP).ok_or("memory")?;
+    assert_eq!(rt; done.settled, CHANGES);
+    let plain = done.plain.ok_or("an entry is not lawful")?;
     assert_eq!(rt; plain.calls, [CALLS, CALLS]);
     assert_eq!(rt; plain.settled, CHANGES);
-    assert!(rt; plain.moves >= CHANGES / 2 || !pace.was_kept());
+    assert!(rt; plain.moves >= CHANGES / 2 || !done.paced);
     Ok(())
 }
 
