@@ -95,15 +95,15 @@ def agreed(name, said):
 
 
 def times(programs, words, pieces, runs, given=None):
-    """Nanoseconds of a processor for one piece, of each of the programs, for each run.
+    """Nanoseconds of a processor for one piece, of each of the programs, for each run. `words` has the words of each program.
 
     A run prints the nanoseconds that it took and then what it did, which all programs must tell alike.
     """
     figures = [[] for _ in programs]
     for _ in range(runs):
         said = set()
-        for program, found in zip(programs, figures):
-            took, *rest = told(program, words, given)
+        for program, own, found in zip(programs, words, figures):
+            took, *rest = told(program, own, given)
             said.add(tuple(rest))
             found.append(int(took) / pieces)
         agreed(words, said)
@@ -112,7 +112,7 @@ def times(programs, words, pieces, runs, given=None):
 
 def both(programs, words, pieces, runs, given=None):
     """The same of the proved program and the plain one."""
-    return times((programs.proved, programs.plain), words, pieces, runs, given)
+    return times((programs.proved, programs.plain), (words, words), pieces, runs, given)
 
 
 def shown(figures, unit=1, digits=0):
@@ -125,14 +125,24 @@ def ratio(proved, plain):
     return f"{statistics.median(proved) / statistics.median(plain):.2f}" if proved and plain else ""
 
 
+# The tables that were printed so far: of each its head and its rows.
+TABLES = []
+
+
 def head(*cells):
-    row(*cells)
+    TABLES.append((cells, []))
+    line(cells)
     print("|" + "---|" * len(cells))
 
 
 def row(*cells):
-    line = " | ".join(str(cell) for cell in cells)
-    print(f"| {line} |".replace("|  |", "| |"), flush=True)
+    TABLES[-1][1].append(cells)
+    line(cells)
+
+
+def line(cells):
+    text = " | ".join(str(cell) for cell in cells)
+    print(f"| {text} |".replace("|  |", "| |"), flush=True)
 
 
 def load():

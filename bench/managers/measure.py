@@ -13,18 +13,20 @@ CRATES = (
 )
 ROUNDS = 400_000
 
-# the cases, by the numbers that both programs know them by
+# the cases: their names, the numbers by which both programs know them, and what else the plain program is told
 CASES = (
-    "peek through a slot",
-    "poke through a slot",
-    "attach, and detach",
-    "send of 2 bytes without a slot, and recv",
-    "push of 2 bytes through a slot, and recv",
+    ("peek through a slot", 0, ()),
+    ("poke through a slot", 1, ()),
+    ("attach, and detach", 2, ()),
+    ("attach, and detach, with indexes", 2, ("indexes",)),
+    ("send of 2 bytes without a slot, and recv", 3, ()),
+    ("push of 2 bytes through a slot, and recv", 4, ()),
 )
 
 
 def measure(programs, asked):
     timing.head("calls", "proved, best / median, ns a call", "plain Rust", "ratio of medians")
-    for case, name in enumerate(CASES):
-        proved, plain = timing.both(programs, (case, ROUNDS), 2 * ROUNDS, asked.runs)
+    for name, case, more in CASES:
+        words = (case, ROUNDS)
+        proved, plain = timing.times((programs.proved, programs.plain), (words, (*words, *more)), 2 * ROUNDS, asked.runs)
         timing.row(name, timing.shown(proved), timing.shown(plain), timing.ratio(proved, plain))

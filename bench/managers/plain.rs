@@ -1,10 +1,11 @@
 //! The same work as the proved program of this folder, as a Rust programmer writes it: processes and ports by number, slots
 //! by place, and the messages of a port in a queue.
 //!
-//! `plain_managers CASE ROUNDS` does the two calls of a case ROUNDS times, under a policy that allows all. It prints the
+//! `plain_managers CASE ROUNDS [indexes]` does the two calls of a case ROUNDS times, under a policy that allows all. It prints the
 //! nanoseconds of a processor that they took, and of all calls how many were done, the sum of the numbers told, and how many
-//! bytes were given.
-use std::collections::VecDeque;
+//! bytes were given. With `indexes` it keeps which slots stand on each pair of identifiers and on each object, by which a change of
+//! policy, a relabel or an end finds its slots without going over all of them.
+use std::collections::{BTreeMap, BTreeSet, VecDeque};
 use std::env;
 
 const CLIENTS: usize = 62;
@@ -48,6 +49,35 @@ struct Slot {
     number: u32,
 }
 
+/// The places of slots by their pair of identifiers and by their object.
+#[derive(Default)]
+struct Indexes {
+    pairs: BTreeMap<(u16, u16), BTreeSet<u32>>,
+    objects: BTreeMap<u32, BTreeSet<u32>>,
+}
+
+impl Indexes {
+    fn add(&mut self, at: u32, slot: Slot) {
+        self.pairs.entry((slot.s, slot.t)).or_default().insert(at);
+        self.objects.entry(slot.object).or_default().insert(at);
+    }
+
+    fn remove(&mut self, at: u32, slot: Slot) {
+        take_out(&mut self.pairs, (slot.s, slot.t), at);
+        take_out(&mut self.objects, slot.object, at);
+    }
+}
+
+/// Takes a place out of the set under a key, and the set where it was the last.
+fn take_out<K: Ord>(sets: &mut BTreeMap<K, BTreeSet<u32>>, key: K, at: u32) {
+    if let Some(set) = sets.get_mut(&key) {
+        set.remove(&at);
+        if set.is_empty() {
+            sets.remove(&key);
+        }
+    }
+}
+
 /// Slots, identifiers of clients, decider and questions, which both managers have.
 struct Rights {
     class: u8,
@@ -55,6 +85,7 @@ struct Rights {
     decider: Decider,
     clients: Vec<u16>,
     slots: Vec<Option<Slot>>,
+    indexes: Option<Indexes>,
     asked: Vec<Asked>,
 }
 
@@ -63,13 +94,14 @@ fn place(client: u8, slot: u8) -> usize {
 }
 
 impl Rights {
-    fn new(class: u8, perms: &'static [u8]) -> Rights {
+    fn new(class: u8, perms: &'static [u8], indexed: bool) -> Rights {
         Rights {
             class,
             perms,
             decider: Decider { vectors: vec![255; 5] },
             clients: vec![1; CLIENTS],
             slots: vec![None; 64 * CLIENTS],
+            indexes: indexed.then(Indexes::default),
             asked: Vec::new(),
         }
     }
@@ -106,7 +138,21 @@ impl Rights {
         let vector = self.decider.vector(s, t, self.class);
         self.ask_mode(s, t, mode, vector)?;
         let bits = if mode & vector == mode { mode } else { 0 };
-        self.slots[at] = Some(Slot { object, s, t, mode, bits, number });
+        let slot = Slot { object, s, t, mode, bits, number };
+        self.slots[at] = Some(slot);
+        if let Some(indexes) = &mut self.indexes {
+            indexes.add(at as u32, slot);
+        }
+        Some(())
+    }
+
+    /// Frees a slot; `None` where it was free.
+    fn free(&mut self, client: u8, slot: u8) -> Option<()> {
+        let at = place(client, slot);
+        let held = self.slots[at].take()?;
+        if let Some(indexes) = &mut self.indexes {
+            indexes.remove(at as u32, held);
+        }
         Some(())
     }
 
@@ -201,7 +247,7 @@ impl Processes {
                 process.register = value;
                 Reply::Done
             }),
-            ProcessCall::Detach(slot) => self.rights.slots[place(client, slot)].take().map(|_| Reply::Done),
+            ProcessCall::Detach(slot) => self.rights.free(client, slot).map(|()| Reply::Done),
         };
         both(reply.unwrap_or(Reply::Refused))
     }
@@ -338,11 +384,12 @@ fn measure<C>(mut call: impl FnMut(&C) -> (Reply, Reply), once: &[C], again: [&C
 }
 
 fn main() {
+    let indexed = env::args().any(|word| word == "indexes");
     let words: Vec<u32> = env::args().skip(1).filter_map(|word| word.parse().ok()).collect();
     let [case, rounds] = words[..] else { return };
     let mut sums = [0; 3];
-    let mut processes = Processes { rights: Rights::new(PROCESS, &ATTACH_PERMS), table: Vec::new() };
-    let mut ports = Ports { rights: Rights::new(PORT, &PORT_PERMS), initial: 3, labels: vec![(80, 4)], table: Vec::new() };
+    let mut processes = Processes { rights: Rights::new(PROCESS, &ATTACH_PERMS, indexed), table: Vec::new() };
+    let mut ports = Ports { rights: Rights::new(PORT, &PORT_PERMS, indexed), initial: 3, labels: vec![(80, 4)], table: Vec::new() };
     let processes_once = [ProcessCall::Fork(7), ProcessCall::Attach(0, 7), ProcessCall::Poke(0, 7)];
     let ports_once = [PortCall::Bind(0, 80, 3), PortCall::Connect(1, 80, 12)];
     let (peek, poke) = (ProcessCall::Peek(0), ProcessCall::Poke(0, 7));

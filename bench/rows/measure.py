@@ -78,5 +78,5 @@ def measure(programs, asked):
         ("catalogue", "a whole policy, 1,024 lines, 1,024 neverallow lines", nevers(), 10, 1),
         ("read", "a policy text read, for each megabyte", large, 2, len(large) / 1e6),
     ):
-        (proved,) = timing.times((programs.proved,), (work, rounds), rounds * pieces, asked.runs, text)
+        (proved,) = timing.times((programs.proved,), ((work, rounds),), rounds * pieces, asked.runs, text)
         timing.row(name, shown(proved), "", "")

@@ -15,7 +15,7 @@ use Rattle.managed.specs.Seen.{Seen, Turn, HasItem, IsShownTry, IsTried, IsTried
 use Rattle.managed.specs.declared.managed.Event.{Event}
 use Rattle.managed.specs.declared.managed.Event.TheVariants.{Acknowledgement}
 use Rattle.managed.specs.declared.managed.Shown.{Shown}
-use Rattle.security_server.specs.Numbering.{Kept, is_in}
+use Rattle.security_server.specs.Numbering.{ServerView, is_in}
 use Rattle.change_protocol.specs.Changes.{Led, AreAll, IsLed, IsAskedUnless, phase_at, said_of, is_kept, ack_all_answer, phase_after}
 use Rattle.change_protocol.specs.declared.answers.Said.{Said}
 use Rattle.change_protocol.specs.declared.answers.AckAll.{AckAll}
@@ -151,7 +151,7 @@ in_by (Some other) one b holds is = let same : other ≡ one = cc in holds ∙ a
 
 module _ {Decider Manager : Type 0} (decides : Decider → Decisions) (seen : Manager → Seen) (forced : Bool) (versions : ℕ) (run : Run) where
   -- the outcome, by whether each receipt is kept
-  ending : (number old new count : ℕ) (receipts : List Bool) (given : Given) (said : List Said) (now : Kept Decider) (answer : AckAll) (all : Bool) → list_all is_kept said ≡ all
+  ending : (number old new count : ℕ) (receipts : List Bool) (given : Given) (said : List Said) (now : ServerView Decider) (answer : AckAll) (all : Bool) → list_all is_kept said ≡ all
       → answer ≡ (if all then acking.Complete number else acking.Waiting) → length said ≡ count
       → ((place : ℕ) → place < count → IsAskedTo forced number (is_in receipts place) (slice_get said place) (given place))
       → (answer ≡ acking.Waiting → (place : ℕ) → IfSome (slice_get said place) (λ one. is_in now.receipts place ≡ is_kept one))
@@ -179,7 +179,7 @@ module _ {Decider Manager : Type 0} (decides : Decider → Decisions) (seen : Ma
       )
 
   -- where a manager with its notice stands, whose receipt is not in
-  stands : (server : Kept Decider) (number old new reached place : ℕ) (xs : List Manager) (x : Manager) → server.phase ≡ Pending number old new
+  stands : (server : ServerView Decider) (number old new reached place : ℕ) (xs : List Manager) (x : Manager) → server.phase ≡ Pending number old new
       → IsLed decides seen (record { server = server; managers = xs; reached = reached }) → length xs ≤ reached → slice_get xs place ≡ Some x → is_in server.receipts place ≡ false
       → (seen x).phase ≡ Pending number old new
   stands server number old new reached place xs x pending led all is out =

@@ -10,7 +10,7 @@ use Rattle.access_vectors.specs.declared.phase.Phase.TheVariants.{Settled, Pendi
 use Rattle.access_vectors.specs.declared.change.NotifyFault.TheVariants as refusing
 use Rattle.managed.specs.Seen.{Seen, Turn, HasItem, MayHaveItem, IsNotified}
 use Rattle.managed.specs.declared.managed.Event.TheVariants.{Notice}
-use Rattle.security_server.specs.Numbering.{Kept, is_in}
+use Rattle.security_server.specs.Numbering.{ServerView, is_in}
 use Rattle.change_protocol.specs.Changes.{Led, AreBoth, IsLed, MayBeIn, IsNotifiedAt, fault_on, started, number_after, first_on, notify_all_fault, notify_all_answer, for_all}
 use Rattle.change_protocol.specs.declared.answers.NotifyAllFault.{NotifyAllFault}
 use Rattle.change_protocol.specs.declared.answers.NotifyAllFault.TheVariants as faults
@@ -83,7 +83,7 @@ stuck_fault new version reached managers number is = rw is (either (new == versi
 
 module _ {Decider Manager : Type 0} (decides : Decider → Decisions) (seen : Manager → Seen) where
   -- at rest no receipt is in
-  no_receipt : (server : Kept Decider) (number version reached place : ℕ) (xs : List Manager) (x : Manager) → server.phase ≡ Settled number version
+  no_receipt : (server : ServerView Decider) (number version reached place : ℕ) (xs : List Manager) (x : Manager) → server.phase ≡ Settled number version
       → IsLed decides seen (record { server = server; managers = xs; reached = reached }) → slice_get xs place ≡ Some x → is_in server.receipts place ≡ false
   no_receipt server number version reached place xs x settled led is =
       elim (is_in server.receipts place) as (λ (b : Bool). is_in server.receipts place ≡ b → b ≡ false) [

@@ -4,7 +4,7 @@ use Rattle.access_vectors.specs.declared.phase.Phase.{Phase}
 use Rattle.access_vectors.specs.declared.phase.Phase.TheVariants.{Settled, Pending}
 use Rattle.managed.specs.Seen.{Turn}
 use Rattle.managed.specs.declared.managed.Event.TheVariants.{Notice, Acknowledgement}
-use Rattle.security_server.specs.Numbering.{Kept, is_in}
+use Rattle.security_server.specs.Numbering.{ServerView, is_in}
 use Rattle.session_text.specs.declared.session.Run.{Run}
 use Rattle.session_text.specs.declared.session.Run.TheVariants as run
 use Rattle.session_text.specs.declared.session.RunLine.{RunLine}
@@ -20,7 +20,7 @@ abbrev pub stand_at : Phase → List Bool → Stand
 stand_at (Settled number version) receipts = Rest number
 stand_at (Pending number old new) receipts = Under number receipts
 
-abbrev pub stand_of : {Decider : Type 0} → Kept Decider → Stand
+abbrev pub stand_of : {Decider : Type 0} → ServerView Decider → Stand
 stand_of server = stand_at server.phase server.receipts
 
 -- by the number of a manager, the turns that it is given, in order

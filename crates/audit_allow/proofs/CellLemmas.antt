@@ -20,7 +20,7 @@ use Rattle.access_vectors.proofs.Members.{has-with_same, has-with_other}
 use Rattle.policy_model.specs.declared.policy.KindLine.{KindLine}
 use Rattle.policy_model.specs.declared.policy.PolicyParts.{PolicyParts}
 use Rattle.policy_model.specs.Declarations.{is_kind}
-use Rattle.policy_model.specs.Kept.{Kept}
+use Rattle.policy_model.specs.Kept.{IsWholePolicy}
 use Rattle.policy_versions.specs.Kinds.{IsPlaceOf}
 use Rattle.policy_versions.specs.Places.{name_at, kind_at}
 use Rattle.policy_versions.proofs.KindLemmas.{same_name, name_same, no_kind, kinds_apart, kinds_few}
@@ -51,7 +51,7 @@ unplaced kinds name none = by_any (list_any test kinds) refl
     by_any true is = let within : position_or_len test kinds < length kinds = first_place test kinds is in absurd (grind (arith, nat_tests))
 
 -- a name is that of the type at its place alone
-pub same_place : (policy : PolicyParts) → Kept policy → (name : List ℕ) (place other : ℕ) → IsPlaceOf policy.kinds name place → other < length policy.kinds → bytes_eq name (kind_at policy other) ≡ eqb place other
+pub same_place : (policy : PolicyParts) → IsWholePolicy policy → (name : List ℕ) (place other : ℕ) → IsPlaceOf policy.kinds name place → other < length policy.kinds → bytes_eq name (kind_at policy other) ≡ eqb place other
 same_place policy kept name place other is within = elim (cases_eq place other) [
   | inl same ↦ name_same name (kind_at policy other) (sym is.named ∙ ap (kind_at policy) same) ∙ sym (eq-eqb place other same)
   | inr apart ↦ by_eq (bytes_eq name (kind_at policy other)) refl apart
@@ -125,7 +125,7 @@ has-with bits index other = elim (cases_eq other index) [
 ]
 
 -- a permission that a question asked for stands in its cell besides what stood there, and no other does
-pub put_asked : (policy : PolicyParts) → Kept policy → (contexts : List (ContextOf (List ℕ))) (asked : Asked) (old new : List (ℕ × ℕ)) (source target : ℕ)
+pub put_asked : (policy : PolicyParts) → IsWholePolicy policy → (contexts : List (ContextOf (List ℕ))) (asked : Asked) (old new : List (ℕ × ℕ)) (source target : ℕ)
     → IsPlaceOf policy.kinds (source_of contexts asked) source → IsPlaceOf policy.kinds (target_of contexts asked) target
     → ((key : ℕ) → vector_at new key ≡ (if key == cell_key source target asked.perm.class then with_index (vector_at old key) asked.perm.index else vector_at old key))
     → (s t : ℕ) (perm : Permission) → s < length policy.kinds → t < length policy.kinds

@@ -18,7 +18,7 @@ use Rattle.policy_model.specs.declared.policy.Labelling.TheVariants as labelling
 use Rattle.policy_model.specs.declared.policy.Pattern.{Pattern}
 use Rattle.policy_model.specs.declared.policy.PolicyParts.{PolicyParts}
 use Rattle.policy_model.specs.Deciding.{vector_where, vector_of, label_of, member_of, takes_after_maker, object_role}
-use Rattle.policy_model.specs.Kept.{Kept}
+use Rattle.policy_model.specs.Kept.{IsWholePolicy}
 use Rattle.policy_model.specs.Matching.{is_same_class, matches_permission}
 use Rattle.policy_model.proofs.VectorLemmas.{has-where, has-or}
 use Rattle.policy_versions.specs.Nevers.{is_broken}
@@ -150,7 +150,7 @@ granted_is list lesson s t class index hs ht = same_bool _ _ there back
         (ap (list_any test) (sym (grant_some s t class vector (some_perms some))) ∙ ap (λ b. b || false) (itself some))
 
 -- which permissions the version decides with what is learned
-has_then : (lesson : Lesson) → Kept lesson.policy → (version : ℕ) → version < length lesson.policy.versions → (s t : ℕ) (class : Class) (index : ℕ) → s < length lesson.policy.kinds → t < length lesson.policy.kinds
+has_then : (lesson : Lesson) → IsWholePolicy lesson.policy → (version : ℕ) → version < length lesson.policy.versions → (s t : ℕ) (class : Class) (index : ℕ) → s < length lesson.policy.kinds → t < length lesson.policy.kinds
     → has (vector_of (appended lesson.policy version (grants Allow lesson)) version (kind_at lesson.policy s) (kind_at lesson.policy t) class) index
     ≡ (has (vector_of lesson.policy version (kind_at lesson.policy s) (kind_at lesson.policy t) class) index || has (learned_vector Allow lesson (kind_at lesson.policy s) (kind_at lesson.policy t) class) index)
 has_then lesson kept version within s t class index hs ht =
@@ -207,7 +207,7 @@ find_at p (x ∷ xs) some = by_first (p x) refl some (find_at p xs)
     by_first false is some further = let behind = further some in record { at = suc behind.at; member = behind.member; is_at = behind.is_at; passes = behind.passes }
 
 -- no `neverallow` line is broken that held
-never_same : (lesson : Lesson) → Kept lesson.policy → (version : ℕ) → version < length lesson.policy.versions → (pattern : Pattern) (at s t index : ℕ) → slice_get lesson.policy.nevers at ≡ Some pattern
+never_same : (lesson : Lesson) → IsWholePolicy lesson.policy → (version : ℕ) → version < length lesson.policy.versions → (pattern : Pattern) (at s t index : ℕ) → slice_get lesson.policy.nevers at ≡ Some pattern
     → s < length lesson.policy.kinds → t < length lesson.policy.kinds → is_broken (appended lesson.policy version (grants Allow lesson)) version pattern s t index ≡ true → is_broken lesson.policy version pattern s t index ≡ true
 unfolding is_broken is_forbidden appended
 never_same lesson kept version within pattern at s t index is hs ht broken =
@@ -229,7 +229,7 @@ never_same lesson kept version within pattern at s t index is hs ht broken =
         ∙ any_at (λ one. matches_permission lesson.policy.attributes one ks kt (record { class = pattern.class; index = index })) lesson.policy.nevers at pattern is parts.0))
 
 -- what is learned teaches what was denied, and nothing else
-pub teaches : (lesson : Lesson) → Kept lesson.policy → (version : ℕ) → version < length lesson.policy.versions → Teaches lesson version (appended lesson.policy version (grants Allow lesson))
+pub teaches : (lesson : Lesson) → IsWholePolicy lesson.policy → (version : ℕ) → version < length lesson.policy.versions → Teaches lesson version (appended lesson.policy version (grants Allow lesson))
 teaches lesson kept version within = record {
   vectors = λ s t class hs ht. same_from_has _ _ (λ index.
       has_then lesson kept version within s t class index hs ht
@@ -294,7 +294,7 @@ each_both P Q [] h k = tt
 each_both P Q (x ∷ xs) h k = ((h.0, k.0), each_both P Q xs h.1 k.1)
 
 -- a grant for other types or another class does not grant what this one does
-other_grants : (lesson : Lesson) → Kept lesson.policy → (grant other : Grant) (index : ℕ) → IsLearned Allow lesson grant → IsLearned Allow lesson other → key_of other ≢ key_of grant
+other_grants : (lesson : Lesson) → IsWholePolicy lesson.policy → (grant other : Grant) (index : ℕ) → IsLearned Allow lesson grant → IsLearned Allow lesson other → key_of other ≢ key_of grant
     → (is_for lesson.policy (kind_at lesson.policy grant.s) (kind_at lesson.policy grant.t) grant.class other && has other.perms index) ≡ false
 other_grants lesson kept grant other index is others apart = by_passes _ refl
   where
@@ -310,7 +310,7 @@ other_grants lesson kept grant other index is others apart = by_passes _ refl
         absurd (apart (rw (from, to, of) refl))
 
 -- no grant can be spared
-pub least : (lesson : Lesson) → Kept lesson.policy → (version : ℕ) → version < length lesson.policy.versions → AreLeast lesson version (grants Allow lesson)
+pub least : (lesson : Lesson) → IsWholePolicy lesson.policy → (version : ℕ) → version < length lesson.policy.versions → AreLeast lesson version (grants Allow lesson)
 unfolding is_denied
 least lesson kept version within denials front back grant is =
     let all : Each (IsLearned Allow lesson) (front ++ grant ∷ back) = subst (Each (IsLearned Allow lesson)) is (each_learned Allow lesson) in

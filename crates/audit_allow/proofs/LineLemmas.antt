@@ -18,7 +18,7 @@ use Rattle.policy_model.specs.declared.policy.Verdict.TheVariants as verdict
 use Rattle.policy_model.specs.declared.policy.Version.{Version}
 use Rattle.policy_model.specs.Declarations.{is_kind, rules_of}
 use Rattle.policy_model.specs.Deciding.{or_else, last_said, decided_vector, rules_at, vector_of, kind_given, gives_kind, given_kind}
-use Rattle.policy_model.specs.Kept.{Grows, Kept, IsApart}
+use Rattle.policy_model.specs.Kept.{Grows, IsWholePolicy, IsApart}
 use Rattle.policy_model.specs.Matching.{is_in, matches_source, matches_target, is_same_class, matches}
 use Rattle.policy_model.proofs.DecidingLemmas.{allow_more, unmatched_more}
 use Rattle.policy_model.proofs.VectorLemmas.{has-or}
@@ -67,7 +67,7 @@ or_assoc true b c = refl
 or_assoc false b c = refl
 
 -- the line of a grant matches what the grant is for
-line_matches : (policy : PolicyParts) → Kept policy → (grant : Grant) → IsInside policy grant → (s t : List ℕ) (class : Class) → matches policy.attributes (line_of policy grant) s t class ≡ is_for policy s t class grant
+line_matches : (policy : PolicyParts) → IsWholePolicy policy → (grant : Grant) → IsInside policy grant → (s t : List ℕ) (class : Class) → matches policy.attributes (line_of policy grant) s t class ≡ is_for policy s t class grant
 unfolding matches matches_source matches_target
 line_matches policy kept grant inside s t class =
     let from = no_attribute policy.kinds (kind_at policy grant.s) s (kind_is policy.kinds grant.s inside.source) [] policy.attributes kept.grown.apart in
@@ -75,7 +75,7 @@ line_matches policy kept grant inside s t class =
     rw (from, to, or_false (bytes_eq (kind_at policy grant.s) s), or_false (bytes_eq (kind_at policy grant.t) t)) (and_assoc (bytes_eq (kind_at policy grant.s) s) (bytes_eq (kind_at policy grant.t) t) (is_same_class grant.class class))
 
 -- one line more
-line_more : (policy : PolicyParts) → Kept policy → (above : List RuleLine) (grant : Grant) → IsInside policy grant → (s t : List ℕ) (class : Class) (index : ℕ)
+line_more : (policy : PolicyParts) → IsWholePolicy policy → (above : List RuleLine) (grant : Grant) → IsInside policy grant → (s t : List ℕ) (class : Class) (index : ℕ)
     → has (decided_vector policy.attributes (above ++ line_of policy grant ∷ []) s t class) index ≡ (has (decided_vector policy.attributes above s t class) index || (is_for policy s t class grant && has grant.perms index))
 line_more policy kept above grant inside s t class index = by_match (is_for policy s t class grant) (line_matches policy kept grant inside s t class)
   where
@@ -92,7 +92,7 @@ abbrev pub is_granted : PolicyParts → List ℕ → List ℕ → Class → ℕ 
 is_granted policy s t class index grants = list_any (λ grant. is_for policy s t class grant && has grant.perms index) grants
 
 -- all lines more
-lines_more : (policy : PolicyParts) → Kept policy → (grants : List Grant) → Each (IsInside policy) grants → (above : List RuleLine) (s t : List ℕ) (class : Class) (index : ℕ)
+lines_more : (policy : PolicyParts) → IsWholePolicy policy → (grants : List Grant) → Each (IsInside policy) grants → (above : List RuleLine) (s t : List ℕ) (class : Class) (index : ℕ)
     → has (decided_vector policy.attributes (above ++ map (line_of policy) grants) s t class) index ≡ (has (decided_vector policy.attributes above s t class) index || is_granted policy s t class index grants)
 lines_more policy kept [] inside above s t class index =
     ap (λ rules. has (decided_vector policy.attributes rules s t class) index) (append-nil above) ∙ sym (or_false (has (decided_vector policy.attributes above s t class) index))
@@ -120,7 +120,7 @@ unfolding rules_at appended
 appended_other policy version other grants apart = with_other policy.versions version other (map (line_of policy) grants) apart
 
 -- which permissions the version decides then
-pub appended_has : (policy : PolicyParts) → Kept policy → (version : ℕ) → version < length policy.versions → (grants : List Grant) → Each (IsInside policy) grants → (s t : List ℕ) (class : Class) (index : ℕ)
+pub appended_has : (policy : PolicyParts) → IsWholePolicy policy → (version : ℕ) → version < length policy.versions → (grants : List Grant) → Each (IsInside policy) grants → (s t : List ℕ) (class : Class) (index : ℕ)
     → has (vector_of (appended policy version grants) version s t class) index ≡ (has (vector_of policy version s t class) index || is_granted policy s t class index grants)
 unfolding vector_of rules_at appended
 appended_has policy kept version within grants inside s t class index =

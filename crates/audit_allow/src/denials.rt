@@ -6,7 +6,7 @@ ghost use Rattle.std.specs.Str.{bytes_eq};
 ghost use Rattle.access_vectors.specs.Table.{Permission, perm_count};
 ghost use Rattle.access_vectors.specs.Vectors.{has};
 ghost use Rattle.policy_model.specs.Declarations.{is_kind};
-ghost use Rattle.policy_model.specs.Kept.{Kept};
+ghost use Rattle.policy_model.specs.Kept.{IsWholePolicy};
 ghost use Rattle.policy_model.specs.declared.policy.KindLine.{KindLine};
 ghost use Rattle.policy_versions.specs.Judging.{context_with};
 ghost use Rattle.policy_versions.specs.Kinds.{IsPlaceOf};
@@ -34,7 +34,7 @@ pub(crate) struct Denials<'q> {
 }
 
 impl<'q> Model for Denials<'q> {
-    ghost use Rattle.policy_model.specs.Kept.{Kept};
+    ghost use Rattle.policy_model.specs.Kept.{IsWholePolicy};
     ghost use Rattle.audit_allow.specs.Cells.{AreDenied};
     ghost use Rattle.audit_allow.specs.Denials.{Lesson};
 
@@ -42,7 +42,7 @@ impl<'q> Model for Denials<'q> {
 
     ghost view = { λ it. record { policy = it.policy.now; contexts = it.sids.now; asked = it.asked.now } };
 
-    ghost invariant = { λ it. Kept it.policy.now × AreDenied (record { policy = it.policy.now; contexts = it.sids.now; asked = it.asked.now }) it.cells };
+    ghost invariant = { λ it. IsWholePolicy it.policy.now × AreDenied (record { policy = it.policy.now; contexts = it.sids.now; asked = it.asked.now }) it.cells };
 }
 
 /// The permissions that questions denied, by types and class.
@@ -88,7 +88,7 @@ fn put_asked(
 /// The place of the type that is declared under a name.
 fn place_of(policy: &PolicyText, name: &[u8]) -> Option<u8>
     ensures place { MatchOption result (is_kind policy.now.kinds name.now ≡ false) (IsPlaceOf policy.now.kinds name.now) }
-    ensures kept { Kept policy.now }
+    ensures kept { IsWholePolicy policy.now }
 {
     let place = place_among(policy.parts().kinds.as_slice(), name)?;
     Some(place as u8)
@@ -120,7 +120,7 @@ impl<'q> Denials<'q> {
         asked: &'q [Asked],
     ) -> Result<Denials<'q>, Memory>
         ensures denials { IfOk result (λ it. it ≡ record { policy = policy.now; contexts = sids.now; asked = asked.now }) }
-        ensures kept { Kept policy.now }
+        ensures kept { IsWholePolicy policy.now }
     {
         let parts = policy.parts();
         let cells = denied_cells(alloc, policy, sids, asked)?;

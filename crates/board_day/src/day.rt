@@ -1,7 +1,7 @@
 //! A board with one client, on one thread.
 
 ghost use Rattle.std.specs.Prelude.{◌≡◌, ℕ, length, IsTrue};
-ghost use Rattle.example_board.specs.Plain.{IsCall};
+ghost use Rattle.example_board.specs.PlainManager.{IsCall};
 
 use access_vectors::Decider;
 use example_board::{BoardCall, BoardCore, BoardOpening, BoardReply};

@@ -15,7 +15,7 @@ use Rattle.manager_history.specs.declared.answers.Ack.TheVariants as acks
 use Rattle.managed.specs.Seen.{Seen, IsGrown, IsAcknowledged, answer_of}
 use Rattle.managed.specs.declared.managed.Shown.{Shown}
 use Rattle.managed.specs.declared.managed.Event.TheVariants.{Acknowledgement}
-use Rattle.security_server.specs.Numbering.{Kept, is_in, pending_of, receipt_fault, is_complete, are_all_in, completed}
+use Rattle.security_server.specs.Numbering.{ServerView, is_in, pending_of, receipt_fault, is_complete, are_all_in, completed}
 use Rattle.change_protocol.specs.Changes.{AreAll, HasAcknowledged, MayBeIn, IsPlaced, IsLed, IsExpected, IsSameServer, IsAskedUnless, IsRound, IfComplete, phase_at, said_of, is_kept, is_idle, is_busy, ack_all_answer}
 use Rattle.change_protocol.specs.declared.answers.Said.{Said}
 use Rattle.change_protocol.specs.declared.answers.AckAll.{AckAll}
@@ -32,7 +32,7 @@ pending_at (Pending pending old next) pair is =
 
 -- the receipt of a manager is expected where it is not in
 expected_at : {Decider : Type 0} (decider : Decider) (managers most : ℕ) (phase : Phase) (receipts : List Bool) (versions reached place : ℕ) (seen : Seen)
-    → (let server : Kept Decider = record { decider = decider; managers = managers; most = most; phase = phase; receipts = receipts } in
+    → (let server : ServerView Decider = record { decider = decider; managers = managers; most = most; phase = phase; receipts = receipts } in
     IsPlaced versions server reached place seen → place < managers → is_in receipts place ≡ false → IsExpected server seen)
 expected_at decider managers most (Settled number version) receipts versions reached place seen placed within out pending =
     let none : is_pending seen.phase ≡ false = ap is_pending placed.phase in absurd (differ (is_pending seen.phase) pending none)
@@ -49,7 +49,7 @@ expected_at decider managers most (Pending number old new) receipts versions rea
           absurd (differ (is_pending seen.phase) pending (ap is_pending at))
     ] refl
 
-pub expected_each : {Decider Manager : Type 0} (decides : Decider → Decisions) (seen : Manager → Seen) (server : Kept Decider) (xs : List Manager) (reached : ℕ)
+pub expected_each : {Decider Manager : Type 0} (decides : Decider → Decisions) (seen : Manager → Seen) (server : ServerView Decider) (xs : List Manager) (reached : ℕ)
     → IsLed decides seen (record { server = server; managers = xs; reached = reached })
     → (place : ℕ) → IfSome (slice_get xs place) (λ manager. ((seen manager).manager ≡ place) × (is_in server.receipts place ≡ false → IsExpected server (seen manager)))
 expected_each {Manager = Manager} decides seen server xs reached led place = go (slice_get xs place) (λ x is. is)
@@ -120,7 +120,7 @@ never_busy (Pending number old new) manager shown ack is = not_busy number old n
 
 module _ {Decider Manager : Type 0} (decides : Decider → Decisions) (seen : Manager → Seen) (same : Manager → Manager → Type 0) (forced : Bool) where
   -- how a manager stands after the question
-  asked_placed : (versions : ℕ) (server mid : Kept Decider) (number old new reached place : ℕ) (was now : Manager) (said : Said)
+  asked_placed : (versions : ℕ) (server mid : ServerView Decider) (number old new reached place : ℕ) (was now : Manager) (said : Said)
       → server.phase ≡ Pending number old new → IsSameServer server mid → IsPlaced versions server reached place (seen was)
       → IsRound seen same forced (is_in server.receipts place) (is_in mid.receipts place) was now said → IsPlaced versions mid reached place (seen now)
   asked_placed versions server mid number old new reached place was now said pending kept placed round =
@@ -163,7 +163,7 @@ module _ {Decider Manager : Type 0} (decides : Decider → Decisions) (seen : Ma
       ] refl round.asked
 
   -- who says that it has no notice
-  idle_at : (versions : ℕ) (server : Kept Decider) (number old new reached place : ℕ) (in_now : Bool) (was now : Manager) (said : Said)
+  idle_at : (versions : ℕ) (server : ServerView Decider) (number old new reached place : ℕ) (in_now : Bool) (was now : Manager) (said : Said)
       → server.phase ≡ Pending number old new → IsPlaced versions server reached place (seen was)
       → IsRound seen same forced (is_in server.receipts place) in_now was now said → is_idle said ≡ not (nat_lt place reached)
   idle_at versions server number old new reached place in_now was now said pending placed round =
@@ -186,7 +186,7 @@ module _ {Decider Manager : Type 0} (decides : Decider → Decisions) (seen : Ma
             ] refl
       ] refl round.asked
 
-  pub idle_each : (server mid : Kept Decider) (xs ys : List Manager) (said : List Said) (reached number old new : ℕ)
+  pub idle_each : (server mid : ServerView Decider) (xs ys : List Manager) (said : List Said) (reached number old new : ℕ)
       → IsLed decides seen (record { server = server; managers = xs; reached = reached }) → server.phase ≡ Pending number old new
       → ((place : ℕ) → AreAll (IsRound seen same forced (is_in server.receipts place) (is_in mid.receipts place)) (slice_get xs place) (slice_get ys place) (slice_get said place))
       → (place : ℕ) → IfSome (slice_get said place) (λ one. is_idle one ≡ not (nat_lt place reached))
@@ -211,7 +211,7 @@ module _ {Decider Manager : Type 0} (decides : Decider → Decisions) (seen : Ma
       go true asked = ap is_busy asked.1
       go false asked = ap is_busy asked.said_is ∙ never_busy (seen was).phase (seen was).manager (seen now).shown asked.ack (rw forces at asked.acknowledged.answer)
 
-  pub busy_each : (server mid : Kept Decider) (xs ys : List Manager) (said : List Said) → forced ≡ true
+  pub busy_each : (server mid : ServerView Decider) (xs ys : List Manager) (said : List Said) → forced ≡ true
       → ((place : ℕ) → AreAll (IsRound seen same forced (is_in server.receipts place) (is_in mid.receipts place)) (slice_get xs place) (slice_get ys place) (slice_get said place))
       → (place : ℕ) → IfSome (slice_get said place) (λ one. is_busy one ≡ false)
   busy_each server mid xs ys said forces each place = go (slice_get xs place) (slice_get ys place) (slice_get said place) (each place)
@@ -225,7 +225,7 @@ module _ {Decider Manager : Type 0} (decides : Decider → Decisions) (seen : Ma
       go (Some x) (Some y) (Some s) all = busy_at (is_in server.receipts place) (is_in mid.receipts place) x y s forces all
 
   -- the server and its managers after all were asked, before the number is complete
-  pub record IsCounted (mid : Kept Decider) (ys : List Manager) (said : List Said) (reached number : ℕ) : Type 0 where
+  pub record IsCounted (mid : ServerView Decider) (ys : List Manager) (said : List Said) (reached number : ℕ) : Type 0 where
     pub old : ℕ
     pub new : ℕ
     pub pending : mid.phase ≡ Pending number old new
@@ -233,7 +233,7 @@ module _ {Decider Manager : Type 0} (decides : Decider → Decisions) (seen : Ma
     pub ins : (place : ℕ) (manager : Manager) → slice_get ys place ≡ Some manager → (one : Said) × (slice_get said place ≡ Some one) × (is_in mid.receipts place ≡ is_kept one)
     pub all_in : is_complete mid number ≡ list_all is_kept said
 
-  pub counted : (server mid : Kept Decider) (xs ys : List Manager) (said : List Said) (reached number old new : ℕ)
+  pub counted : (server mid : ServerView Decider) (xs ys : List Manager) (said : List Said) (reached number old new : ℕ)
       → IsLed decides seen (record { server = server; managers = xs; reached = reached }) → server.phase ≡ Pending number old new
       → IsSameServer server mid → length ys ≡ length xs → length said ≡ length xs
       → ((place : ℕ) → AreAll (IsRound seen same forced (is_in server.receipts place) (is_in mid.receipts place)) (slice_get xs place) (slice_get ys place) (slice_get said place))
@@ -279,7 +279,7 @@ module _ {Decider Manager : Type 0} (decides : Decider → Decisions) (seen : Ma
       said_in (Some x) (Some y) (Some s) place one all is = let same_one : s ≡ one = cc in all.now_in ∙ ap is_kept same_one
 
   -- what is answered
-  pub counted_answer : (phase : Phase) (mid : Kept Decider) (ys : List Manager) (said : List Said) (reached number : ℕ) (result : AckAll)
+  pub counted_answer : (phase : Phase) (mid : ServerView Decider) (ys : List Manager) (said : List Said) (reached number : ℕ) (result : AckAll)
       → IsCounted mid ys said reached number → mid.phase ≡ phase → result ≡ (if is_complete mid number then acking.Complete number else acking.Waiting)
       → result ≡ ack_all_answer phase said
   counted_answer phase mid ys said reached number result counted kept is =
@@ -300,7 +300,7 @@ module _ {Decider Manager : Type 0} (decides : Decider → Decisions) (seen : Ma
       rest_of false b all = cc
 
   -- where the number is complete each manager has its receipt in, has its notice and has acknowledged
-  all_received : (mid : Kept Decider) (ys : List Manager) (said : List Said) (reached number : ℕ) → IsCounted mid ys said reached number → is_complete mid number ≡ true
+  all_received : (mid : ServerView Decider) (ys : List Manager) (said : List Said) (reached number : ℕ) → IsCounted mid ys said reached number → is_complete mid number ≡ true
       → (place : ℕ) (manager : Manager) → slice_get ys place ≡ Some manager
       → (is_in mid.receipts place ≡ true) × (place < reached) × HasAcknowledged (seen manager).history number
   all_received mid ys said reached number counted complete place manager is =
@@ -310,7 +310,7 @@ module _ {Decider Manager : Type 0} (decides : Decider → Decisions) (seen : Ma
       (there, may.0, may.1)
 
   -- how all stand after that
-  pub completed_led : (mid : Kept Decider) (ys : List Manager) (said : List Said) (reached number : ℕ) → IsCounted mid ys said reached number
+  pub completed_led : (mid : ServerView Decider) (ys : List Manager) (said : List Said) (reached number : ℕ) → IsCounted mid ys said reached number
       → IsLed decides seen (record { server = completed mid (is_complete mid number); managers = ys; reached = reached })
   completed_led mid ys said reached number counted =
       elim (is_complete mid number) as (λ (b : Bool). is_complete mid number ≡ b → IsLed decides seen (record { server = completed mid b; managers = ys; reached = reached })) [
@@ -339,7 +339,7 @@ module _ {Decider Manager : Type 0} (decides : Decider → Decisions) (seen : Ma
       ] refl
 
   -- a complete number has the acknowledgement of each manager
-  pub complete_history : (mid : Kept Decider) (ys : List Manager) (said : List Said) (reached number : ℕ) (result : AckAll) → IsCounted mid ys said reached number
+  pub complete_history : (mid : ServerView Decider) (ys : List Manager) (said : List Said) (reached number : ℕ) (result : AckAll) → IsCounted mid ys said reached number
       → result ≡ (if is_complete mid number then acking.Complete number else acking.Waiting)
       → IfComplete result (λ number. (place : ℕ) → IfSome (slice_get ys place) (λ manager. HasAcknowledged (seen manager).history number))
   complete_history mid ys said reached number result counted result_is =

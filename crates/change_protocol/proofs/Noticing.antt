@@ -11,7 +11,7 @@ use Rattle.access_vectors.specs.declared.change.NotifyFault.{NotifyFault}
 use Rattle.access_vectors.specs.declared.change.NotifyFault.TheVariants as refusing
 use Rattle.managed.specs.Seen.{Seen, IsNotified}
 use Rattle.managed.specs.declared.managed.Event.{Event}
-use Rattle.security_server.specs.Numbering.{Kept, is_in}
+use Rattle.security_server.specs.Numbering.{ServerView, is_in}
 use Rattle.change_protocol.specs.Changes.{AreBoth, MayBeIn, IsPlaced, ArePlaced, IsSound, IsLed, IsTold, IsToldAt, IsNotifiedAt, phase_at, started, started_on, first_on, number_after, notify_all_fault, for_all}
 use Rattle.change_protocol.specs.declared.answers.NotifyAllFault.{NotifyAllFault}
 use Rattle.change_protocol.specs.declared.answers.NotifyAllFault.TheVariants as faults
@@ -50,7 +50,7 @@ same_version new version reached managers pending =
 
 module _ {Decider Manager : Type 0} (decides : Decider → Decisions) (seen : Manager → Seen) where
   -- a change that is begun: a number is pending with the version, and the managers stand so that the first ones have its notice
-  pub record IsBegun (server : Kept Decider) (xs : List Manager) (first number version : ℕ) : Type 0 where
+  pub record IsBegun (server : ServerView Decider) (xs : List Manager) (first number version : ℕ) : Type 0 where
     pub old : ℕ
     pub pending : server.phase ≡ Pending number old version
     pub sound : IsSound decides server
@@ -58,7 +58,7 @@ module _ {Decider Manager : Type 0} (decides : Decider → Decisions) (seen : Ma
     pub placed : ArePlaced decides seen server xs first
 
   begun_at : (decider : Decider) (managers most : ℕ) (phase : Phase) (receipts : List Bool) (xs : List Manager) (reached version : ℕ)
-      → (let server : Kept Decider = record { decider = decider; managers = managers; most = most; phase = phase; receipts = receipts } in
+      → (let server : ServerView Decider = record { decider = decider; managers = managers; most = most; phase = phase; receipts = receipts } in
       IsSound decides server → reached ≤ managers → ArePlaced decides seen server xs reached
       → notify_all_fault (decides decider).versions server reached version ≡ None
       → IsBegun (started server version) xs (first_on phase reached) (number_after phase) version)
@@ -88,7 +88,7 @@ module _ {Decider Manager : Type 0} (decides : Decider → Decisions) (seen : Ma
     placed = placed;
   }
 
-  pub begun : (server : Kept Decider) (xs : List Manager) (reached version : ℕ)
+  pub begun : (server : ServerView Decider) (xs : List Manager) (reached version : ℕ)
       → IsLed decides seen (record { server = server; managers = xs; reached = reached })
       → notify_all_fault (decides server.decider).versions server reached version ≡ None
       → IsBegun (started server version) xs (first_on server.phase reached) (number_after server.phase) version
@@ -96,15 +96,15 @@ module _ {Decider Manager : Type 0} (decides : Decider → Decisions) (seen : Ma
       begun_at server.decider server.managers server.most server.phase server.receipts xs reached version led.sound led.within led.placed allowed
 
 -- the managers that are registered stay
-same_many : {Decider : Type 0} (phase : Phase) (server : Kept Decider) (version : ℕ) → (started_on phase server version).managers ≡ server.managers
+same_many : {Decider : Type 0} (phase : Phase) (server : ServerView Decider) (version : ℕ) → (started_on phase server version).managers ≡ server.managers
 same_many (Settled number old) server version = refl
 same_many (Pending number old new) server version = refl
 
-pub started_many : {Decider : Type 0} (server : Kept Decider) (version : ℕ) → (started server version).managers ≡ server.managers
+pub started_many : {Decider : Type 0} (server : ServerView Decider) (version : ℕ) → (started server version).managers ≡ server.managers
 started_many server version = same_many server.phase server version
 
 -- where a manager with no notice stands
-unreached : {Decider : Type 0} (versions : ℕ) (server : Kept Decider) (first place number old version : ℕ) (was : Seen) → server.phase ≡ Pending number old version
+unreached : {Decider : Type 0} (versions : ℕ) (server : ServerView Decider) (first place number old version : ℕ) (was : Seen) → server.phase ≡ Pending number old version
     → IsPlaced versions server first place was → first ≤ place → was.phase ≡ Settled (number - 1) old
 unreached versions server first place number old version was pending placed above =
     let none : nat_lt place first ≡ false = grind (arith, nat_tests) in
@@ -172,7 +172,7 @@ refused_memory seen versions most number old version was now at versions_are mos
 
 module _ {Decider Manager : Type 0} (decides : Decider → Decisions) (seen : Manager → Seen) where
   -- what the round did to a manager, with the number and the refusal
-  notified_at : (server : Kept Decider) (xs : List Manager) (first reached number version place : ℕ) (was now : Manager)
+  notified_at : (server : ServerView Decider) (xs : List Manager) (first reached number version place : ℕ) (was now : Manager)
       → IsBegun decides seen server xs first number version → slice_get xs place ≡ Some was → first ≤ reached
       → IsToldAt seen version first reached place was now → IsNotifiedAt seen version number first reached place was now
   notified_at server xs first reached number version place was now begun stands started told =
@@ -189,7 +189,7 @@ module _ {Decider Manager : Type 0} (decides : Decider → Decisions) (seen : Ma
       }
 
   -- how it stands then
-  notified_placed : (server : Kept Decider) (xs : List Manager) (first reached number version place : ℕ) (was now : Manager)
+  notified_placed : (server : ServerView Decider) (xs : List Manager) (first reached number version place : ℕ) (was now : Manager)
       → IsBegun decides seen server xs first number version → slice_get xs place ≡ Some was → first ≤ reached
       → IsNotifiedAt seen version number first reached place was now → IsPlaced (decides server.decider).versions server reached place (seen now)
   notified_placed server xs first reached number version place was now begun stands started notified =
@@ -237,7 +237,7 @@ module _ {Decider Manager : Type 0} (decides : Decider → Decisions) (seen : Ma
       ] refl
 
   -- the managers after a round of notices
-  pub notified_led : (server : Kept Decider) (xs ys : List Manager) (first reached number version : ℕ)
+  pub notified_led : (server : ServerView Decider) (xs ys : List Manager) (first reached number version : ℕ)
       → IsBegun decides seen server xs first number version → length ys ≡ length xs → length xs ≡ server.managers → first ≤ reached → reached ≤ server.managers
       → ((place : ℕ) → AreBoth (IsToldAt seen version first reached place) (slice_get xs place) (slice_get ys place))
       → IsLed decides seen (record { server = server; managers = ys; reached = reached })
@@ -251,7 +251,7 @@ module _ {Decider Manager : Type 0} (decides : Decider → Decisions) (seen : Ma
         (notified_at server xs first reached number version place back.0 manager begun back.1 started back.2);
   }
 
-  pub notified_each : (server : Kept Decider) (xs ys : List Manager) (first reached number version : ℕ)
+  pub notified_each : (server : ServerView Decider) (xs ys : List Manager) (first reached number version : ℕ)
       → IsBegun decides seen server xs first number version → first ≤ reached
       → ((place : ℕ) → AreBoth (IsToldAt seen version first reached place) (slice_get xs place) (slice_get ys place))
       → (place : ℕ) → AreBoth (IsNotifiedAt seen version number first reached place) (slice_get xs place) (slice_get ys place)

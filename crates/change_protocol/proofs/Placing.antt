@@ -8,7 +8,7 @@ use Rattle.access_vectors.specs.declared.phase.Phase.{Phase}
 use Rattle.access_vectors.specs.declared.phase.Phase.TheVariants.{Settled, Pending}
 use Rattle.managed.specs.Seen.{Seen, IsGrown, IsUpdated}
 use Rattle.managed.specs.declared.managed.Event.{Event}
-use Rattle.security_server.specs.Numbering.{Kept}
+use Rattle.security_server.specs.Numbering.{ServerView}
 use Rattle.change_protocol.specs.Changes.{AreBoth, AreAll, MayBeIn, IsPlaced, IsLed}
 
 -- what stood at a place where something stands now
@@ -40,7 +40,7 @@ stays_in (Settled number version) reached place alone old new added grown may = 
 stays_in (Pending number first second) reached place alone old new added grown may = (may.0, (may.1.0, contains_grown alone old new added _ grown may.1.1))
 
 module _ {Decider : Type 0} where
-  pub updated_placed : (versions most reached place left : ℕ) (server : Kept Decider) (was now : Seen) → IsUpdated most was now left
+  pub updated_placed : (versions most reached place left : ℕ) (server : ServerView Decider) (was now : Seen) → IsUpdated most was now left
       → IsPlaced versions server reached place was → IsPlaced versions server reached place now
   updated_placed versions most reached place left server was now updated placed = record {
     numbered = updated.same.manager ∙ placed.numbered;
@@ -50,7 +50,7 @@ module _ {Decider : Type 0} where
     receipt = λ there. stays_in server.phase reached place _ _ _ _ updated.history (placed.receipt there);
   }
 
-  pub updated_led : {Manager : Type 0} (decides : Decider → Decisions) (seen : Manager → Seen) (same : Manager → Manager → Type 0) (most reached : ℕ) (server : Kept Decider)
+  pub updated_led : {Manager : Type 0} (decides : Decider → Decisions) (seen : Manager → Seen) (same : Manager → Manager → Type 0) (most reached : ℕ) (server : ServerView Decider)
       (xs ys : List Manager) (left : List ℕ) → IsLed decides seen (record { server = server; managers = xs; reached = reached }) → length ys ≡ length xs
       → ((place : ℕ) → AreAll (λ was now left. IsUpdated most (seen was) (seen now) left × same was now) (slice_get xs place) (slice_get ys place) (slice_get left place))
       → IsLed decides seen (record { server = server; managers = ys; reached = reached })

@@ -3,7 +3,7 @@ use Rattle.std.proofs.Common.{◌≡◌, ℕ, zero, suc, ◌<◌, List, [], ◌�
 use Rattle.std.specs.Prelude.{slice_get, slice_set, ◌⊎◌}
 use Rattle.access_vectors.specs.Decisions.{Decisions}
 use Rattle.managed.specs.Seen.{Seen, IsServed}
-use Rattle.security_server.specs.Numbering.{Kept}
+use Rattle.security_server.specs.Numbering.{ServerView}
 use Rattle.change_protocol.specs.Changes.{IsPlaced, IsLed}
 use Rattle.change_protocol.proofs.Placing.{stays_in}
 
@@ -25,7 +25,7 @@ set_back (x ∷ xs) (suc i) (suc place) y z is = elim (set_back xs i place y z i
 ]
 
 module _ {Decider : Type 0} where
-  served_placed : (versions reached place : ℕ) (server : Kept Decider) (was now : Seen) → IsServed was now
+  served_placed : (versions reached place : ℕ) (server : ServerView Decider) (was now : Seen) → IsServed was now
       → IsPlaced versions server reached place was → IsPlaced versions server reached place now
   served_placed versions reached place server was now served placed = record {
     numbered = served.same.manager ∙ placed.numbered;
@@ -35,7 +35,7 @@ module _ {Decider : Type 0} where
     receipt = λ there. stays_in server.phase reached place _ _ _ _ served.history (placed.receipt there);
   }
 
-  pub served_led : {Manager : Type 0} (decides : Decider → Decisions) (seen : Manager → Seen) (server : Kept Decider) (xs : List Manager) (reached i : ℕ) (x y : Manager)
+  pub served_led : {Manager : Type 0} (decides : Decider → Decisions) (seen : Manager → Seen) (server : ServerView Decider) (xs : List Manager) (reached i : ℕ) (x y : Manager)
       → IsLed decides seen (record { server = server; managers = xs; reached = reached }) → i < length xs → slice_get xs i ≡ Some x → IsServed (seen x) (seen y)
       → IsLed decides seen (record { server = server; managers = slice_set xs i y; reached = reached })
   served_led {Manager = Manager} decides seen server xs reached i x y led within there served = record {

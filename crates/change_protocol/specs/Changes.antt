@@ -13,7 +13,7 @@ use Rattle.access_vectors.specs.Notices.{notice_fault}
 use Rattle.managed.specs.Seen.{Seen, IsNotified, IsAcknowledged}
 use Rattle.managed.specs.declared.managed.Event.{Event}
 use Rattle.managed.specs.declared.managed.Event.TheVariants.{Acknowledgement}
-use Rattle.security_server.specs.Numbering.{Kept, is_in, receipt_fault, proposed}
+use Rattle.security_server.specs.Numbering.{ServerView, is_in, receipt_fault, proposed}
 use Rattle.change_protocol.specs.declared.answers.NotifyAllFault.{NotifyAllFault}
 use Rattle.change_protocol.specs.declared.answers.NotifyAllFault.TheVariants as faults
 use Rattle.change_protocol.specs.declared.answers.Said.{Said}
@@ -24,7 +24,7 @@ use Rattle.change_protocol.specs.declared.answers.AckAll.TheVariants as acking
 -- what contracts see of a coordinator: its server, its managers in the order of their numbers, and how many of them, the
 -- first ones, have the notice of the number that is proposed
 pub record Led (Decider Manager : Type 0) : Type 0 where
-  pub server : Kept Decider
+  pub server : ServerView Decider
   pub managers : List Manager
   pub reached : ℕ
 
@@ -48,7 +48,7 @@ MayBeIn (Pending number old new) reached place history = (place < reached) × Ha
 
 -- how the manager at a place has to stand: it has that place as its number, and the server's last policy number and number of
 -- versions
-pub record IsPlaced {Decider : Type 0} (versions : ℕ) (server : Kept Decider) (reached place : ℕ) (seen : Seen) : Type 0 where
+pub record IsPlaced {Decider : Type 0} (versions : ℕ) (server : ServerView Decider) (reached place : ℕ) (seen : Seen) : Type 0 where
   pub numbered : seen.manager ≡ place
   pub most : seen.most ≡ server.most
   pub versions_are : seen.versions ≡ versions
@@ -56,13 +56,13 @@ pub record IsPlaced {Decider : Type 0} (versions : ℕ) (server : Kept Decider) 
   pub receipt : is_in server.receipts place ≡ true → MayBeIn server.phase reached place seen.history
 
 -- each manager stands as it has to
-abbrev pub ArePlaced : {Decider Manager : Type 0} → (Decider → Decisions) → (Manager → Seen) → Kept Decider → List Manager → ℕ → Type 0
+abbrev pub ArePlaced : {Decider Manager : Type 0} → (Decider → Decisions) → (Manager → Seen) → ServerView Decider → List Manager → ℕ → Type 0
 ArePlaced {Manager = Manager} decides seen server managers reached =
     (place : ℕ) (manager : Manager) → slice_get managers place ≡ Some manager
     → IsPlaced (decides server.decider).versions server reached place (seen manager)
 
 -- a server with its bounds: a place for each receipt, and a number and versions that there are
-pub record IsSound {Decider : Type 0} (decides : Decider → Decisions) (server : Kept Decider) : Type 0 where
+pub record IsSound {Decider : Type 0} (decides : Decider → Decisions) (server : ServerView Decider) : Type 0 where
   pub few : server.managers ≤ 16
   pub places : length server.receipts ≡ 16
   pub numbers : number_of server.phase ≤ server.most
@@ -97,7 +97,7 @@ pub record HasServed {Manager : Type 0} (does : Manager → Manager → Type 0) 
   pub done : does was now
 
 -- the same version goes on where it is proposed and some manager has no notice
-abbrev pub goes_on : {Decider : Type 0} → Kept Decider → ℕ → ℕ → ℕ → Bool
+abbrev pub goes_on : {Decider : Type 0} → ServerView Decider → ℕ → ℕ → ℕ → Bool
 goes_on server reached proposed version = (proposed == version) && nat_lt reached server.managers
 
 -- a refusal as one of the notices to all: no manager is reached
@@ -108,21 +108,21 @@ for_all refusing.Spent = faults.Spent
 for_all refusing.Memory = faults.Memory 0
 
 -- why a version is not given to all managers, in the order of the tests; want of memory is none of these
-abbrev pub fault_on : {Decider : Type 0} → Phase → ℕ → Kept Decider → ℕ → ℕ → Option NotifyAllFault
+abbrev pub fault_on : {Decider : Type 0} → Phase → ℕ → ServerView Decider → ℕ → ℕ → Option NotifyAllFault
 fault_on (Pending number old new) versions server reached version =
     if goes_on server reached new version then None else Some (faults.Pending number)
 fault_on (Settled number old) versions server reached version = option_map for_all (notice_fault (Settled number old) versions version server.most)
 
-abbrev pub notify_all_fault : {Decider : Type 0} → ℕ → Kept Decider → ℕ → ℕ → Option NotifyAllFault
+abbrev pub notify_all_fault : {Decider : Type 0} → ℕ → ServerView Decider → ℕ → ℕ → Option NotifyAllFault
 notify_all_fault versions server reached version = fault_on server.phase versions server reached version
 
 -- the server with the version proposed, as before where it goes on; the number that is then proposed; and how many managers
 -- have their notice then
-abbrev pub started_on : {Decider : Type 0} → Phase → Kept Decider → ℕ → Kept Decider
+abbrev pub started_on : {Decider : Type 0} → Phase → ServerView Decider → ℕ → ServerView Decider
 started_on (Settled number old) server version = proposed server (number + 1) version
 started_on (Pending number old new) server version = server
 
-abbrev pub started : {Decider : Type 0} → Kept Decider → ℕ → Kept Decider
+abbrev pub started : {Decider : Type 0} → ServerView Decider → ℕ → ServerView Decider
 started server version = started_on server.phase server version
 
 abbrev pub number_after : Phase → ℕ
@@ -159,11 +159,11 @@ abbrev pub ending : ℕ → ℕ → ℕ → Result ℕ NotifyAllFault
 ending number reached managers = if nat_lt reached managers then Err (faults.Memory reached) else Ok number
 
 -- the receipt that a manager would give is expected
-abbrev pub IsExpected : {Decider : Type 0} → Kept Decider → Seen → Type 0
+abbrev pub IsExpected : {Decider : Type 0} → ServerView Decider → Seen → Type 0
 IsExpected server seen = is_pending seen.phase ≡ true → receipt_fault server (record { manager = seen.manager; number = number_of seen.phase }) ≡ None
 
 -- a server but for the receipts that are in
-pub record IsSameServer {Decider : Type 0} (old new : Kept Decider) : Type 0 where
+pub record IsSameServer {Decider : Type 0} (old new : ServerView Decider) : Type 0 where
   pub decider : new.decider ≡ old.decider
   pub managers : new.managers ≡ old.managers
   pub most : new.most ≡ old.most

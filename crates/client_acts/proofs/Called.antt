@@ -11,7 +11,7 @@ use Rattle.gate_rule.specs.declared.view.Pass.{Pass}
 use Rattle.gate_rule.specs.declared.view.Pass.TheVariants.{Out, Inside}
 use Rattle.gate_rule.specs.History.{last_notice, StartsWith}
 use Rattle.gate_rule.specs.Views.{number_of}
-use Rattle.epoch_gate.specs.Seats.{Shown, pass_of}
+use Rattle.epoch_gate.specs.Seats.{SeatView, pass_of}
 use Rattle.epoch_gate.specs.Known.{seen_by, caller_number, pass_held, pass_number}
 use Rattle.managed_run.specs.Kinds.{kind_of}
 use Rattle.managed_run.specs.Calls.{HasAdded, HasAnswered, KeepsPass, operation_of, aborted_of}
@@ -76,12 +76,12 @@ module _ {Call Reply : Type 0} where
 
 module _ {Call Reply State D O : Type 0} (plain : Manager Call Reply State) (formed : Decisions → State → ℕ → Call → Type 0) (d : Decisions) (opening : State) where
   -- what was seen before is how what is seen after an entry begins
-  starts : (entry : Entry Call Reply) (s t : Shown (Entry Call Reply) D O) → HasAdded entry s t → StartsWith (seen_by t) (seen_by s)
+  starts : (entry : Entry Call Reply) (s t : SeatView (Entry Call Reply) D O) → HasAdded entry s t → StartsWith (seen_by t) (seen_by s)
   starts entry s t added =
       (added.begins.0 ++ entry ∷ [], added.seen ∙ ap (λ (log : List (Entry Call Reply)). log ++ entry ∷ []) added.begins.1 ∙ append_assoc (seen_by s) added.begins.0 (entry ∷ []))
 
   -- an entry of the call under the pass
-  called_by : (mark : ℕ) (call : Call) (entry : Entry Call Reply) (s taken t : Shown (Entry Call Reply) D O) → HasTaken (standing_of s) (standing_of taken)
+  called_by : (mark : ℕ) (call : Call) (entry : Entry Call Reply) (s taken t : SeatView (Entry Call Reply) D O) → HasTaken (standing_of s) (standing_of taken)
       → KeepsPass taken t → IsLawful plain formed d (start_of opening) (seen_by t) → HasAdded entry taken t
       → pass_number taken ≤ (last_notice kind_of (seen_by t)).0
       → ((number : ℕ) → pass_number taken ≡ number → caller_number taken ≡ caller_number s → IsEntryOf (caller_number s) mark call number entry)
@@ -106,7 +106,7 @@ module _ {Call Reply State D O : Type 0} (plain : Manager Call Reply State) (for
       }
 
   -- an answer of the station
-  pub called : (use_of : ℕ → Call → Option ℕ) (mark : ℕ) (call : Call) (said : Said Reply) (asked : List Asked) (s taken t : Shown (Entry Call Reply) D O)
+  pub called : (use_of : ℕ → Call → Option ℕ) (mark : ℕ) (call : Call) (said : Said Reply) (asked : List Asked) (s taken t : SeatView (Entry Call Reply) D O)
       → HasTaken (standing_of s) (standing_of taken) → KeepsPass taken t → IsLawful plain formed d (start_of opening) (seen_by t)
       → HasAnswered use_of mark call said asked taken t → Called mark call (standing_of s) (standing_of t)
   called use_of mark call (saying.Did reply) asked s taken t took kept lawful answered =

@@ -3,7 +3,7 @@ use Rattle.std.specs.Prelude.{ℕ, List, Option, Some, None}
 use Rattle.gate_rule.specs.declared.view.Pass.{Pass}
 use Rattle.gate_rule.specs.declared.view.Pass.TheVariants.{Out, Inside}
 use Rattle.gate_rule.specs.History.{last_notice}
-use Rattle.epoch_gate.specs.Seats.{Shown}
+use Rattle.epoch_gate.specs.Seats.{SeatView}
 use Rattle.epoch_gate.specs.Known.{seen_by, own_entries, caller_number, pass_held, quota_left}
 use Rattle.manager_history.specs.declared.entry.Entry.{Entry}
 use Rattle.managed_run.specs.Kinds.{kind_of}
@@ -23,7 +23,7 @@ number_held Out = None
 number_held (Inside number version) = Some number
 
 -- where the client of a seat stands
-abbrev pub standing_of : {Call Reply D O : Type 0} → Shown (Entry Call Reply) D O → Standing Call Reply
+abbrev pub standing_of : {Call Reply D O : Type 0} → SeatView (Entry Call Reply) D O → Standing Call Reply
 standing_of s = record {
   client = caller_number s;
   held = number_held (pass_held s);

@@ -1,17 +1,17 @@
 -- A client at the three stations.
 use Rattle.std.specs.Prelude.{◌≡◌, ℕ, ◌<◌, List, [], None}
 use Rattle.access_vectors.specs.Decisions.{Decisions}
-use Rattle.epoch_gate.specs.Seats.{Shown, Site, IsOfGate}
+use Rattle.epoch_gate.specs.Seats.{SeatView, Site, IsOfGate}
 use Rattle.epoch_gate.specs.Known.{decider_of, IsIdle}
-use Rattle.file_calls.specs.Plain as file_plain
+use Rattle.file_calls.specs.PlainManager as file_plain
 use Rattle.file_calls.specs.States as file_states
 use Rattle.file_calls.specs.declared.call.FileCall.{FileCall}
 use Rattle.file_calls.specs.declared.call.FileReply.{FileReply}
-use Rattle.process_calls.specs.Plain as process_plain
+use Rattle.process_calls.specs.PlainManager as process_plain
 use Rattle.process_calls.specs.States as process_states
 use Rattle.process_calls.specs.declared.call.ProcessCall.{ProcessCall}
 use Rattle.process_calls.specs.declared.call.ProcessReply.{ProcessReply}
-use Rattle.port_calls.specs.Plain as port_plain
+use Rattle.port_calls.specs.PlainManager as port_plain
 use Rattle.port_calls.specs.States as port_states
 use Rattle.port_calls.specs.declared.call.PortCall.{PortCall}
 use Rattle.port_calls.specs.declared.call.PortReply.{PortReply}
@@ -80,7 +80,7 @@ pub record HasRunFront (client : ℕ) (lines : List RunLine) (s : Standings) : T
   pub ports : IsFrontOf port_act client lines s.ports.mine
 
 -- a seat is a station's, and has neither the turn nor a ticket for one
-abbrev pub SitsAt : {E D O : Type 0} → Site D O → Shown E D O → Type 0
+abbrev pub SitsAt : {E D O : Type 0} → Site D O → SeatView E D O → Type 0
 SitsAt g s = IsOfGate g s × IsIdle s
 
 module _ {D F P Q : Type 0} where

@@ -12,7 +12,7 @@ use Rattle.gate_rule.specs.Meaning.{Means}
 use Rattle.gate_rule.specs.Tickets.{has_turn}
 use Rattle.gate_rule.specs.Rows.{IsKey}
 use Rattle.gate_rule.specs.Views.{IsLive, took, gave}
-use Rattle.gate_rule.specs.Rule.{Kept, IsOf}
+use Rattle.gate_rule.specs.Rule.{RuleHolds, IsOf}
 use Rattle.gate_rule.specs.Told.{Extends, Takes}
 use Rattle.gate_rule.specs.Told as told
 use Rattle.gate_rule.proofs.Serving.{turn_is}
@@ -38,7 +38,7 @@ module _ {V E D O : Type 0} (M : Means V E D O) where
 module _ {V E D O : Type 0} (M : Means V E D O) (decides : D → Decisions) (k : Terms V D) where
   -- passing the turn on, after the value was put back
   pub give_after : (slots id : ℕ) (me me' : Me (Option V) (View E D O)) (y : V) → IsLive me.0.role → has_turn me.0.ticket ≡ true → me.1 ≡ (0, None) ∷ [] → me' ≡ (me.0, (0, Some y) ∷ rest me.1)
-      → Extends M.kind me.0 (M.history y) → ((f : Fixed D O) → me.0.fixed ≡ Some f → IsOf M f y) → Allows (Kept M decides k) slots id me' 4 (λ n. (n + 1) % 18446744073709551616) (told.gives M decides (step slots 4 1 0 none) me')
+      → Extends M.kind me.0 (M.history y) → ((f : Fixed D O) → me.0.fixed ≡ Some f → IsOf M f y) → Allows (RuleHolds M decides k) slots id me' 4 (λ n. (n + 1) % 18446744073709551616) (told.gives M decides (step slots 4 1 0 none) me')
   give_after slots id me me' y alive turn empty after ext is_of =
       let same : me.0 ≡ me'.0 = sym (ap (λ (z : Me (Option V) (View E D O)). z.0) after) in
       let t = turn_is me.0.ticket turn in
@@ -61,17 +61,17 @@ module _ {V E D O : Type 0} (M : Means V E D O) (decides : D → Decisions) (k :
 
   -- looking at the row of the key that the step picks
   pub see : (slots id : ℕ) (me : Me (Option V) (View E D O)) (n : ℕ) → me.0.role ≡ Caller n → IsInside me.0.rights.pass → {sought : Key} (key : Key) → sought ≡ key → IsKey key
-      → (i : ℕ) → 5 ≤ i → i < 517 → Allows (Kept M decides k) slots id me i (λ w. w) (told.sees_row M decides sought (step slots i 0 0 none) me)
+      → (i : ℕ) → 5 ≤ i → i < 517 → Allows (RuleHolds M decides k) slots id me i (λ w. w) (told.sees_row M decides sought (step slots i 0 0 none) me)
   see slots id me n is inside key same is_key i from to =
-      subst (λ (x : Key). Allows (Kept M decides k) slots id me i (λ w. w) (told.sees_row M decides x (step slots i 0 0 none) me)) (sym same)
+      subst (λ (x : Key). Allows (RuleHolds M decides k) slots id me i (λ w. w) (told.sees_row M decides x (step slots i 0 0 none) me)) (sym same)
       (kept.see_row M decides k slots id me n is _ _ (inside_is me.0.rights.pass inside) key is_key i from to)
 
   -- filling the row of the key that the step picks, with a word that is one for the pass and the key
   pub fill : (slots id : ℕ) (me : Me (Option V) (View E D O)) (n : ℕ) → me.0.role ≡ Caller n → IsInside me.0.rights.pass → {sought : Key} (key : Key) → sought ≡ key → IsKey key → (row : ℕ) → IsRowFor decides me.0 key row
-      → (i : ℕ) → 5 ≤ i → i < 517 → Allows (Kept M decides k) slots id me i (λ _. row) (told.fills_row M decides sought (step slots i row 0 none) me)
+      → (i : ℕ) → 5 ≤ i → i < 517 → Allows (RuleHolds M decides k) slots id me i (λ _. row) (told.fills_row M decides sought (step slots i row 0 none) me)
   fill slots id me n is inside key same is_key row h i from to =
-      subst (λ (y : Key). Allows (Kept M decides k) slots id me i (λ _. row) (told.fills_row M decides y (step slots i row 0 none) me)) (sym same)
-      (subst (λ (x : ℕ). Allows (Kept M decides k) slots id me i (λ _. x) (told.fills_row M decides key (step slots i x 0 none) me)) (sym h.1)
+      subst (λ (y : Key). Allows (RuleHolds M decides k) slots id me i (λ _. row) (told.fills_row M decides y (step slots i row 0 none) me)) (sym same)
+      (subst (λ (x : ℕ). Allows (RuleHolds M decides k) slots id me i (λ _. x) (told.fills_row M decides key (step slots i x 0 none) me)) (sym h.1)
       (kept.fill_row M decides k slots id me n is _ _ (inside_is me.0.rights.pass inside) key is_key h.0 h.2 h.3 i from to))
 
 module _ {V E D O : Type 0} (M : Means V E D O) (decides : D → Decisions) where

@@ -18,7 +18,7 @@ use Rattle.gate_rule.specs.Views.{number_of, pass_version}
 use Rattle.gate_rule.specs.Told.{IsPassFor}
 
 -- a seat, or the administrator: the table that it sits at, and all that it knows
-pub record Shown (E D O : Type 0) : Type 0 where
+pub record SeatView (E D O : Type 0) : Type 0 where
   pub table : TableId
   pub view : View E D O
 
@@ -28,7 +28,7 @@ pub record Site (D O : Type 0) : Type 0 where
   pub fixed : Fixed D O
 
 -- the gate made the seat
-abbrev pub IsOfGate : {E D O : Type 0} → Site D O → Shown E D O → Type 0
+abbrev pub IsOfGate : {E D O : Type 0} → Site D O → SeatView E D O → Type 0
 IsOfGate g s = (s.table ≡ g.table) × (s.view.fixed ≡ Some g.fixed)
 
 -- the seat sits at this table, which is that of a gate
@@ -84,11 +84,11 @@ pub record IsSeat {V E D O : Type 0} (decides : D → Decisions) (me : Me (Optio
 -- the run-time numbers of the administrator are those that it knows
 pub record IsAdmin {V E D O : Type 0} (me : Me (Option V) (View E D O)) (number version counted made retired : ℕ) : Type 0 where
   pub role : me.0.role ≡ Admin
-  pub newest : me.0.desk.newest ≡ number
-  pub version_is : me.0.desk.version ≡ version
-  pub counted_is : me.0.desk.counted ≡ counted
-  pub made_is : me.0.desk.made ≡ made
-  pub retired_is : length me.0.desk.ended ≡ retired
+  pub newest : me.0.admin_view.newest ≡ number
+  pub version_is : me.0.admin_view.version ≡ version
+  pub counted_is : me.0.admin_view.counted ≡ counted
+  pub made_is : me.0.admin_view.made ≡ made
+  pub retired_is : length me.0.admin_view.ended ≡ retired
   pub within : retired ≤ made
   pub carried : me.1 ≡ carried_by me.0.ticket
   pub rest : IsAtRest me.0.ticket

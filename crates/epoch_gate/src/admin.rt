@@ -19,9 +19,9 @@ pub struct Admin<V: Journal<D>, D: Decider> {
 }
 
 impl<V: Journal<D>, D: Decider> Model for Admin<V, D> {
-    ghost use Rattle.epoch_gate.specs.Seats.{Shown, IsAdmin};
+    ghost use Rattle.epoch_gate.specs.Seats.{SeatView, IsAdmin};
 
-    ghost Value = { Shown V.Entry D V.Opening };
+    ghost Value = { SeatView V.Entry D V.Opening };
 
     ghost view = { λ a. record { table = a.place.table_id; view = a.place.me.0 } };
 

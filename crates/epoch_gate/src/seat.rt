@@ -18,9 +18,9 @@ pub struct Seat<V: Journal<D>, D: Decider> {
 }
 
 impl<V: Journal<D>, D: Decider> Model for Seat<V, D> {
-    ghost use Rattle.epoch_gate.specs.Seats.{Shown, IsSeat};
+    ghost use Rattle.epoch_gate.specs.Seats.{SeatView, IsSeat};
 
-    ghost Value = { Shown V.Entry D V.Opening };
+    ghost Value = { SeatView V.Entry D V.Opening };
 
     ghost view = { λ s. record { table = s.place.table_id; view = s.place.me.0 } };
 

@@ -111,12 +111,12 @@ pub(crate) fn raise<V: Journal<D>, D: Decider>(
 ) -> u64
     requires table { IsAt words.now.table_id place.old.table_id }
     requires seat { (place.old.me.0.role ≡ TheAdmin) × (has_turn place.old.me.0.ticket ≡ true) }
-    requires rest { settled_in V.means.kind place.old.me.0.seen ≡ place.old.me.0.desk.newest }
-    requires version { place.old.me.0.desk.version ≡ old }
-    requires allowed { (f : Fixed D V.Opening) → place.old.me.0.fixed ≡ Some f → (place.old.me.0.desk.newest < f.most) × (new < (D.decides f.decider).versions) }
+    requires rest { settled_in V.means.kind place.old.me.0.seen ≡ place.old.me.0.admin_view.newest }
+    requires version { place.old.me.0.admin_view.version ≡ old }
+    requires allowed { (f : Fixed D V.Opening) → place.old.me.0.fixed ≡ Some f → (place.old.me.0.admin_view.newest < f.most) × (new < (D.decides f.decider).versions) }
     ensures table { place.new.table_id ≡ place.old.table_id }
     ensures told { (amount : ℕ) × Told.raises V.means D.decides (step words.now.table_id.slots 0 amount 0 none) place.old.me result place.new.me }
-    ensures version { place.new.me.0.desk.version ≡ new }
+    ensures version { place.new.me.0.admin_view.version ≡ new }
 {
     let amount = raise_by(old, new);
     words.fetch_add::<Raise>(place, 0, amount)
@@ -130,8 +130,8 @@ pub(crate) fn count<V: Journal<D>, D: Decider>(
 ) -> u64
     requires table { IsAt words.now.table_id place.old.table_id }
     requires seat { (place.old.me.0.role ≡ TheAdmin) × (has_turn place.old.me.0.ticket ≡ true) }
-    requires pending { settled_in V.means.kind place.old.me.0.seen ≢ place.old.me.0.desk.newest }
-    requires number { (place.old.me.0.desk.newest ≡ number) × (number < 1048576) }
+    requires pending { settled_in V.means.kind place.old.me.0.seen ≢ place.old.me.0.admin_view.newest }
+    requires number { (place.old.me.0.admin_view.newest ≡ number) × (number < 1048576) }
     ensures table { place.new.table_id ≡ place.old.table_id }
     ensures told { Told.counts V.means D.decides (step words.now.table_id.slots (leave_word (number + 1)) 0 0 none) place.old.me result place.new.me }
 {
@@ -193,7 +193,7 @@ pub(crate) fn make<V: Journal<D>, D: Decider>(
 ) -> Place<V, D>
     requires table { IsAt words.now.table_id place.old.table_id }
     requires seat { place.old.me.0.role ≡ TheAdmin }
-    requires room { (f : Fixed D V.Opening) → place.old.me.0.fixed ≡ Some f → place.old.me.0.desk.made < f.seats }
+    requires room { (f : Fixed D V.Opening) → place.old.me.0.fixed ≡ Some f → place.old.me.0.admin_view.made < f.seats }
     ensures table { (place.new.table_id ≡ place.old.table_id) × (result.table_id ≡ place.old.table_id) }
     ensures kept { place.new.me ≡ (Views.with_seat place.old.me.0, place.old.me.1) }
     ensures made { result.me ≡ (Views.new_seat place.old.me.0, []) }

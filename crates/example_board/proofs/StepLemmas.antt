@@ -12,34 +12,34 @@ use Rattle.retained_rights.proofs.Following.{client_of_place}
 use Rattle.retained_rights.proofs.MapLemmas.{mapped-empty, mapped-insert, mapped-remove}
 use Rattle.retained_rights.proofs.Opening.{fit_none}
 use Rattle.retained_rights.proofs.StepLemmas as steps
-use Rattle.example_board.specs.Plain.{IsOpening, opened_with, with_slots}
+use Rattle.example_board.specs.PlainManager.{IsOpening, opened_with, with_slots}
 use Rattle.example_board.specs.declared.opening.BoardOpening.{BoardOpening}
-use Rattle.example_board.specs.Boards.{Shown, IsLinked, IsInStep, Safe, slots_of, state_of, follows}
+use Rattle.example_board.specs.Boards.{BoardView, IsLinked, IsInStep, Safe, slots_of, state_of, follows}
 use Rattle.example_board.specs.Laws.{safe_is}
 
 -- other rights, and another number on the board
-abbrev pub with_rights : Shown → Rights → Shown
+abbrev pub with_rights : BoardView → Rights → BoardView
 with_rights shown now = record { opening = shown.opening; posted = shown.posted; rights = now }
 
-abbrev pub posting : Shown → ℕ → Shown
+abbrev pub posting : BoardView → ℕ → BoardView
 posting shown posted = record { opening = shown.opening; posted = posted; rights = shown.rights }
 
 -- the promise under a decider with other rights, and with another number on the board
-pub safe_moved : (d : Decisions) (shown : Shown) (now : Rights) → Safe d shown → IsInStep (with_rights shown now) → Fit d now → Safe d (with_rights shown now)
+pub safe_moved : (d : Decisions) (shown : BoardView) (now : Rights) → Safe d shown → IsInStep (with_rights shown now) → Fit d now → Safe d (with_rights shown now)
 unfolding Safe
 safe_moved d shown now safe step fit = record { step = step; known = safe.known; rights = fit }
 
-pub safe_posted : (d : Decisions) (shown : Shown) (posted : ℕ) → Safe d shown → Safe d (posting shown posted)
+pub safe_posted : (d : Decisions) (shown : BoardView) (posted : ℕ) → Safe d shown → Safe d (posting shown posted)
 unfolding Safe
 safe_posted d shown posted safe = record { step = safe.step; known = safe.known; rights = safe.rights }
 
 -- where a change of policy leaves what the slots are for
-pub safe_kept : (d : Decisions) (shown : Shown) (now : Rights) → Safe d shown → now.rule ≡ shown.rights.rule → now.class ≡ shown.rights.class
+pub safe_kept : (d : Decisions) (shown : BoardView) (now : Rights) → Safe d shown → now.rule ≡ shown.rights.rule → now.class ≡ shown.rights.class
     → claims_of now ≡ claims_of shown.rights → Fit d now → Safe d (with_rights shown now)
 safe_kept d shown now safe rule class claims fit = safe_moved d shown now safe (steps.step_kept (safe_is d shown safe).step now rule class claims) fit
 
 -- a board as it is opened
-abbrev pub opened : BoardOpening → Rights → Shown
+abbrev pub opened : BoardOpening → Rights → BoardView
 opened opening rights = record { opening = opening; posted = 0; rights = rights }
 
 module _ (opening : BoardOpening) (rights : Rights) (none : rights ≡ no_rights Each File) where
@@ -59,7 +59,7 @@ module _ (opening : BoardOpening) (rights : Rights) (none : rights ≡ no_rights
   pub follows_opened : follows (opened opening rights) ≡ maps.empty
   follows_opened = ap (λ now. follows (opened opening now)) none ∙ mapped-empty _
 
-module _ (shown : Shown) (now : Rights) where
+module _ (shown : BoardView) (now : Rights) where
   -- a slot of a client is filled
   pub step_filled : (client slot : ℕ) (filling : Claim) → slot < 256 → IsInStep shown → now.rule ≡ shown.rights.rule → now.class ≡ shown.rights.class
       → shown.opening.label ≡ filling.t → slice_index shown.opening.clients client ≡ filling.s → claims_of now ≡ maps.insert (claims_of shown.rights) (slot_place client slot) filling

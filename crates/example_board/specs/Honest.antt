@@ -11,7 +11,7 @@ use Rattle.access_vectors.specs.Perms.{file_read, file_write}
 use Rattle.manager_history.specs.Answers.{IsHonest}
 use Rattle.mode_questions.specs.Honesty as honest
 use Rattle.mode_questions.specs.Requests.{Request, saying, asking}
-use Rattle.example_board.specs.Plain.{BoardState, BoardAnswer, with_posted, with_slots, mode_perms, opened_into, used, closed, answered, answer, request_of, denial_of, IsFormed}
+use Rattle.example_board.specs.PlainManager.{BoardState, BoardAnswer, with_posted, with_slots, mode_perms, opened_into, used, closed, answered, answer, request_of, denial_of, IsFormed}
 use Rattle.example_board.specs.declared.opening.BoardOpening.{BoardOpening}
 use Rattle.example_board.specs.declared.call.BoardCall.{BoardCall}
 use Rattle.example_board.specs.declared.call.BoardCall.TheVariants as call

@@ -1,4 +1,4 @@
-pub mod Plain
+pub mod PlainManager
 pub mod Honest
 pub mod Boards
 pub mod Laws

@@ -8,7 +8,7 @@ ghost use Rattle.access_vectors.specs.Stale.{slot_place};
 ghost use Rattle.access_vectors.specs.declared.phase.Phase.{Phase};
 ghost use Rattle.retained_rights.specs.Rules.{Meets};
 ghost use Rattle.retained_rights.specs.declared.rule.Rule.{Rule};
-ghost use Rattle.example_board.specs.Plain.{IsOpening, opened_with, sid_of, with_slots, with_posted};
+ghost use Rattle.example_board.specs.PlainManager.{IsOpening, opened_with, sid_of, with_slots, with_posted};
 ghost use Rattle.example_board.specs.Boards.{Safe, IsUse, IsFree, state_of, follows};
 
 use crate::opening::{BoardOpening, OPENING_NUMBER};
@@ -21,7 +21,7 @@ use std::marker::Model;
 /// The number of the object that every grant is on: there is one board.
 const BOARD: u32 = 0;
 
-/// The number on the board, and a grant for each used slot. Contracts see a value `Shown`. A change of policy is made on the
+/// The number on the board, and a grant for each used slot. Contracts see a value `BoardView`. A change of policy is made on the
 /// grants themselves, and leaves what each is for.
 #[derive(Drop)]
 pub struct Board<F: Callback> {
@@ -31,11 +31,11 @@ pub struct Board<F: Callback> {
 }
 
 impl<F: Callback> Model for Board<F> {
-    ghost use Rattle.example_board.specs.Boards.{Shown, IsInStep, shown_code};
+    ghost use Rattle.example_board.specs.Boards.{BoardView, IsInStep, view_code};
 
-    ghost Value = { Shown };
+    ghost Value = { BoardView };
 
-    ghost coded = { shown_code };
+    ghost coded = { view_code };
 
     ghost view = { λ board. record { opening = board.opening; posted = board.posted; rights = board.grants } };
 

@@ -6,7 +6,7 @@ ghost use Rattle.access_vectors.specs.Decisions.{Decisions};
 ghost use Rattle.access_vectors.specs.declared.phase.Phase.{Phase};
 ghost use Rattle.retained_rights.specs.Rules.{Meets};
 ghost use Rattle.retained_rights.specs.declared.rule.Rule.{Rule};
-ghost use Rattle.example_board.specs.Plain.{IsOpening, opened_with};
+ghost use Rattle.example_board.specs.PlainManager.{IsOpening, opened_with};
 ghost use Rattle.example_board.specs.Boards.{Safe, state_of, follows};
 
 use crate::board::Board;
@@ -29,11 +29,11 @@ pub struct BoardCore<F: Callback> {
 }
 
 impl<F: Callback> Model for BoardCore<F> {
-    ghost use Rattle.example_board.specs.Boards.{Shown, shown_code};
+    ghost use Rattle.example_board.specs.Boards.{BoardView, view_code};
 
-    ghost Value = { Shown };
+    ghost Value = { BoardView };
 
-    ghost coded = { shown_code };
+    ghost coded = { view_code };
 
     ghost view = { λ core. core.board };
 }
@@ -57,8 +57,8 @@ pub fn new<F: Callback>(alloc: Global, opening: BoardOpening, callback: F) -> Bo
 impl<F: Callback> Core for BoardCore<F> {
     ghost use Rattle.access_vectors.specs.declared.class.Class.TheVariants.{File};
     ghost use Rattle.example_board.specs.Honest.{honest_answer, formed_stays};
-    ghost use Rattle.example_board.specs.Plain as plainly;
-    ghost use Rattle.example_board.specs.Plain.{BoardState, IsFormed, opened_with};
+    ghost use Rattle.example_board.specs.PlainManager as plainly;
+    ghost use Rattle.example_board.specs.PlainManager.{BoardState, IsFormed, opened_with};
     ghost use Rattle.example_board.specs.Boards as boards;
     ghost use Rattle.example_board.specs.Boards.{Safe, state_of};
     ghost use Rattle.example_board.specs.Laws.{stale_as_defined, follows_named, used_as_followed};

@@ -3,7 +3,7 @@
 ghost use Rattle.std.specs.FinMap as maps;
 ghost use Rattle.access_vectors.specs.Stale.{slot_place};
 ghost use Rattle.mode_questions.specs.Operations.{request};
-ghost use Rattle.example_board.specs.Plain.{open_row, read_row, post_row, close_row, IsFormed};
+ghost use Rattle.example_board.specs.PlainManager.{open_row, read_row, post_row, close_row, IsFormed};
 ghost use Rattle.example_board.specs.Boards.{state_of, follows};
 ghost use Rattle.example_board.specs.Serving.{MayServe, SaysThrough, ServesThrough, ServesSlots, ServesCall};
 

@@ -8,14 +8,14 @@ use Rattle.access_vectors.specs.Vectors.{has}
 use Rattle.access_vectors.specs.declared.asked.Asked.{Asked}
 use Rattle.mode_questions.specs.Requests.{Request}
 use Rattle.file_tree.specs.Nodes.{step_from}
-use Rattle.file_tree.specs.Plain.{PlainTree, Item}
+use Rattle.file_tree.specs.PlainTree.{PlainTree, Item}
 use Rattle.file_tree.proofs.PlainLemmas.{paths_total}
 use Rattle.file_tree.specs.declared.step.Step.{Step}
 use Rattle.file_calls.specs.declared.call.FileReply.TheVariants.{Done, Bytes, Denied}
 use Rattle.file_calls.specs.States.{Held, FileState, FileAnswer, opened_with, root_tree, saying, asking}
 use Rattle.file_calls.specs.Walks.{Walk, looked_into, walked_from, after_walk, entry_key}
 use Rattle.file_calls.specs.SlotCalls.{open_into, opened_at, used, with_file}
-use Rattle.file_calls.specs.Plain.{answer}
+use Rattle.file_calls.specs.PlainManager.{answer}
 use Rattle.file_calls.specs.Example.{AnswersOfDay, one_file_opening, day_decisions, day_open, day_read, opened_state}
 
 -- where the file stands

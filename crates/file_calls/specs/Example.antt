@@ -7,7 +7,7 @@ use Rattle.file_calls.specs.declared.opening.FileOpening.{FileOpening}
 use Rattle.file_calls.specs.declared.call.FileCall.{FileCall}
 use Rattle.file_calls.specs.declared.call.FileCall.TheVariants.{OpenFile, ReadFile}
 use Rattle.file_calls.specs.declared.call.FileReply.TheVariants.{Done, Bytes, Denied}
-use Rattle.file_calls.specs.Plain.{answer}
+use Rattle.file_calls.specs.PlainManager.{answer}
 use Rattle.file_calls.specs.States.{FileState, opened_with}
 
 -- one client, and one file with four bytes

@@ -13,14 +13,14 @@ use Rattle.manager_history.specs.Answers.{IsHonest}
 use Rattle.mode_questions.specs.Honesty as honest
 use Rattle.mode_questions.specs.Requests.{Request, question_of, with_subject}
 use Rattle.file_tree.specs.Nodes.{step_from}
-use Rattle.file_tree.specs.Plain.{PlainTree, Item, has_entry_below}
+use Rattle.file_tree.specs.PlainTree.{PlainTree, Item, has_entry_below}
 use Rattle.file_tree.specs.declared.step.Step.{Step}
 use Rattle.file_calls.specs.Openings.{node_limit, byte_limit}
 use Rattle.file_calls.specs.States.{Held, FileState, FileAnswer, sid_of, with_tree, mode_perms, saying, asking, asking_whole, after_asking}
 use Rattle.file_calls.specs.Walks.{Walk, entry_key, then_walking, looked_into, walked_from, walked, after_walk}
 use Rattle.file_calls.specs.PathCalls.{new_label, create_perm, getattr_perm, relabelfrom_perm, relabelto_perm, put_in, made_at, taken_out, unlinked_as, unlinked_at, listed_as, listed_at, told_at, relabelled_at}
 use Rattle.file_calls.specs.SlotCalls.{filled, opened_as, opened_at, open_into, with_file, used, sized, closed, given_into, given_from}
-use Rattle.file_calls.specs.Plain.{answered, answer, request_of, denial_of, IsNamed, IsFormed}
+use Rattle.file_calls.specs.PlainManager.{answered, answer, request_of, denial_of, IsNamed, IsFormed}
 use Rattle.file_calls.specs.declared.opening.FileOpening.{FileOpening}
 use Rattle.file_calls.specs.declared.call.FileCall.{FileCall}
 use Rattle.file_calls.specs.declared.call.FileCall.TheVariants as call

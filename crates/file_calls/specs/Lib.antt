@@ -5,6 +5,6 @@ pub mod States
 pub mod Walks
 pub mod PathCalls
 pub mod SlotCalls
-pub mod Plain
+pub mod PlainManager
 pub mod Example
 pub mod Honest

@@ -9,7 +9,7 @@ use Rattle.access_vectors.specs.Perms.{file_create, file_unlink, file_getattr, f
 use Rattle.access_vectors.specs.declared.class.Class.{Class}
 use Rattle.access_vectors.specs.declared.class.Class.TheVariants as class
 use Rattle.mode_questions.specs.Requests.{Request}
-use Rattle.file_tree.specs.Plain.{Item, names_below, has_entry_below}
+use Rattle.file_tree.specs.PlainTree.{Item, names_below, has_entry_below}
 use Rattle.file_tree.specs.declared.step.Step.{Step}
 use Rattle.file_calls.specs.Openings.{node_limit}
 use Rattle.file_calls.specs.Paths.{same_steps}

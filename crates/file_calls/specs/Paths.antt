@@ -2,7 +2,7 @@
 use Rattle.std.specs.Prelude.{ℕ, Bool, List}
 use Rattle.std.specs.Cmp.Lexicographic.{pointwise}
 use Rattle.std.specs.Str.{bytes_eq}
-use Rattle.file_tree.specs.Plain.{same_step}
+use Rattle.file_tree.specs.PlainTree.{same_step}
 use Rattle.file_tree.specs.declared.step.Step.{Step}
 
 -- two paths have the same parts

@@ -7,7 +7,7 @@ use Rattle.access_vectors.specs.Perms.{file_read, file_write, file_append}
 use Rattle.access_vectors.specs.Vectors.{has}
 use Rattle.mode_questions.specs.Requests.{Request}
 use Rattle.file_tree.specs.Bytes.{written}
-use Rattle.file_tree.specs.Plain.{Item}
+use Rattle.file_tree.specs.PlainTree.{Item}
 use Rattle.file_tree.specs.declared.step.Step.{Step}
 use Rattle.file_calls.specs.Openings.{byte_limit}
 use Rattle.file_calls.specs.States.{Held, FileState, FileAnswer, with_tree, with_slots, saying, asking, asking_whole, after_asking}

@@ -8,7 +8,7 @@ use Rattle.access_vectors.specs.Perms.{file_read, file_write, file_append}
 use Rattle.manager_history.specs.Answers.{Answer}
 use Rattle.mode_questions.specs.Requests as requests
 use Rattle.mode_questions.specs.Requests.{Request, Asking, asking_mode}
-use Rattle.file_tree.specs.Plain.{PlainTree, steps_of}
+use Rattle.file_tree.specs.PlainTree.{PlainTree, steps_of}
 use Rattle.file_tree.specs.declared.step.Step.{Step}
 use Rattle.file_calls.specs.declared.opening.Node.{Node}
 use Rattle.file_calls.specs.declared.opening.FileOpening.{FileOpening}

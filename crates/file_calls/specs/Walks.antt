@@ -6,7 +6,7 @@ use Rattle.access_vectors.specs.declared.asked.Asked.{Asked}
 use Rattle.access_vectors.specs.declared.class.Class.TheVariants as class
 use Rattle.mode_questions.specs.Requests.{Request, question_of, stopped_or}
 use Rattle.file_tree.specs.Nodes.{step_from}
-use Rattle.file_tree.specs.Plain.{PlainTree, Item}
+use Rattle.file_tree.specs.PlainTree.{PlainTree, Item}
 use Rattle.file_tree.specs.declared.step.Step.{Step}
 use Rattle.file_calls.specs.States.{FileState, FileAnswer}
 use Rattle.file_calls.specs.declared.call.FileReply.{FileReply}

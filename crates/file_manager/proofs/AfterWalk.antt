@@ -11,14 +11,14 @@ use Rattle.mode_questions.specs.declared.operation.Caller.{Caller}
 use Rattle.mode_questions.specs.declared.operation.Operation.{Operation}
 use Rattle.mode_questions.proofs.Asks.{same_more, asked_more}
 use Rattle.file_tree.specs.Nodes.{Nodes, path_in, step_from}
-use Rattle.file_tree.specs.Plain.{Item, plain, item_of}
+use Rattle.file_tree.specs.PlainTree.{Item, plain, item_of}
 use Rattle.file_tree.specs.declared.step.Step.{Step}
-use Rattle.file_calls.specs.Plain.{when_done}
+use Rattle.file_calls.specs.PlainManager.{when_done}
 use Rattle.file_calls.specs.States.{FileAnswer}
 use Rattle.file_calls.specs.Walks.{Walk, after_walk}
 use Rattle.file_calls.specs.declared.call.FileReply.{FileReply}
 use Rattle.file_store.specs.Stores as stores
-use Rattle.file_store.specs.Stores.{Shown, state_of}
+use Rattle.file_store.specs.Stores.{StoreView, state_of}
 use Rattle.file_manager.specs.declared.walks.Spot.{Spot}
 use Rattle.file_manager.specs.declared.walks.Below.{Below}
 use Rattle.file_manager.specs.declared.walks.Below.TheVariants as below
@@ -77,7 +77,7 @@ module _ {A : Type 0} {g : Ghosts A} (transitive : (a b c : A) → g.same a b �
       ap (λ (caller : Caller A). row (request_by g caller) at above item) same
       ∙ (λ i. row (request before) (leads.at_is i) (leads.above_is i) (leads.item_is i))
 
-  pub says_after : (row : Rest) (before middle after : Operation A g) (shown : Shown) (walk : Walk) (at : List Step) (above : ℕ) (item : Option Item)
+  pub says_after : (row : Rest) (before middle after : Operation A g) (shown : StoreView) (walk : Walk) (at : List Step) (above : ℕ) (item : Option Item)
       (result : Result FileReply Memory)
       → Leads shown.nodes walk at above item → HasAsked before middle walk.asked
       → Says result shown middle after (row (request middle) at above item)
@@ -91,7 +91,7 @@ module _ {A : Type 0} {g : Ghosts A} (transitive : (a b c : A) → g.same a b �
       subst (Says (Ok said) shown before after) (sym whole ∙ ap (after_walk (state_of shown) walk) is)
       (says.0, says.1, asked_more transitive before middle after walk.asked rest.asked asked says.2)
 
-  pub serves_after : (row : Rest) (before middle after : Operation A g) (old new : Shown) (walk : Walk) (at : List Step) (above : ℕ) (item : Option Item)
+  pub serves_after : (row : Rest) (before middle after : Operation A g) (old new : StoreView) (walk : Walk) (at : List Step) (above : ℕ) (item : Option Item)
       (result : Result FileReply Memory)
       → Leads old.nodes walk at above item → HasAsked before middle walk.asked
       → Serves result old new middle after (row (request middle) at above item)
@@ -111,7 +111,7 @@ module _ {A : Type 0} {g : Ghosts A} (transitive : (a b c : A) → g.same a b �
         asked_more transitive before middle after walk.asked rest.asked asked serves.4,
       )
 
-  pub slots_after : (changed : Request → List Step → Follows) (row : Rest) (before middle after : Operation A g) (old new : Shown) (walk : Walk) (at : List Step) (above : ℕ)
+  pub slots_after : (changed : Request → List Step → Follows) (row : Rest) (before middle after : Operation A g) (old new : StoreView) (walk : Walk) (at : List Step) (above : ℕ)
       (item : Option Item) (result : Result FileReply Memory)
       → Leads old.nodes walk at above item → HasAsked before middle walk.asked
       → ServesSlots (changed (request middle) at) result old new middle after (row (request middle) at above item)

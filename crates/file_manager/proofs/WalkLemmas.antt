@@ -13,7 +13,7 @@ use Rattle.mode_questions.specs.declared.operation.Caller.{Caller}
 use Rattle.mode_questions.specs.declared.operation.Operation.{Operation}
 use Rattle.mode_questions.proofs.Asks.{same_more, asked_more}
 use Rattle.file_tree.specs.Nodes.{Nodes, step_from, path_in}
-use Rattle.file_tree.specs.Plain.{PlainTree, Item, plain}
+use Rattle.file_tree.specs.PlainTree.{PlainTree, Item, plain}
 use Rattle.file_tree.specs.declared.step.Step.{Step}
 use Rattle.file_calls.specs.Walks.{Walk, entry_key, then_walking, looked_into, walked_from}
 use Rattle.file_calls.specs.declared.call.FileReply.{FileReply}
@@ -23,7 +23,7 @@ use Rattle.file_manager.specs.declared.walks.Below.{Below}
 use Rattle.file_manager.specs.declared.walks.Below.TheVariants as below
 use Rattle.file_manager.specs.declared.walks.Stop.{Stop}
 use Rattle.file_manager.specs.declared.walks.Stop.TheVariants as stop
-use Rattle.file_store.specs.Stores.{Shown}
+use Rattle.file_store.specs.Stores.{StoreView}
 use Rattle.file_manager.specs.Serving.{MayServe}
 use Rattle.file_manager.specs.Walking.{IsBelow, ComesBelow, said_of, last_name, name_of, walk_on}
 
@@ -118,7 +118,7 @@ told_more nodes walk rest asked name told same is =
     subst (λ (w : Walk). IsBelow nodes w name told) (sym same) (ends_alike nodes rest asked name told is)
 
 -- files may serve an operation further
-pub may_still : {A : Type 0} {g : Ghosts A} (before after : Operation A g) (shown : Shown) → IsSameOperation before after → MayServe shown (request before) → MayServe shown (request after)
+pub may_still : {A : Type 0} {g : Ghosts A} (before after : Operation A g) (shown : StoreView) → IsSameOperation before after → MayServe shown (request before) → MayServe shown (request after)
 may_still {A = A} {g = g} before after shown same may = subst (λ (caller : Caller A). MayServe shown (request_by g caller)) (sym same.caller) may
 
 -- for the operations of one asker, whose relation of sameness is transitive

@@ -11,19 +11,19 @@ use Rattle.mode_questions.specs.Requests.{Request}
 use Rattle.mode_questions.specs.Operations.{request, IsSameOperation, HasAsked, HasUsed}
 use Rattle.mode_questions.specs.declared.operation.Operation.{Operation}
 use Rattle.retained_rights.specs.declared.grant.Usable.{Usable}
-use Rattle.file_tree.specs.Plain.{plain, item_of}
+use Rattle.file_tree.specs.PlainTree.{plain, item_of}
 use Rattle.file_tree.specs.declared.node.Node.{Node}
-use Rattle.file_calls.specs.Plain.{answered, followed_by, use_of, denial_of, when_done}
+use Rattle.file_calls.specs.PlainManager.{answered, followed_by, use_of, denial_of, when_done}
 use Rattle.file_calls.specs.States.{FileAnswer, sid_of}
 use Rattle.file_calls.specs.declared.call.FileCall.{FileCall}
 use Rattle.file_calls.specs.declared.call.FileReply.{FileReply}
 use Rattle.file_calls.specs.declared.call.FileReply.TheVariants as reply
-use Rattle.file_store.specs.Stores.{Shown, Safe, state_of, follows}
+use Rattle.file_store.specs.Stores.{StoreView, Safe, state_of, follows}
 use Rattle.file_store.specs.Uses.{IsUse}
 
 -- files may serve a request: they keep their promise under its decider, its client is one of theirs, its subject is the
 -- client's identifier, and its number may be named, with its version
-pub record MayServe (shown : Shown) (r : Request) : Type 0 where
+pub record MayServe (shown : StoreView) (r : Request) : Type 0 where
   pub safe : Safe r.decisions shown
   pub client : r.client < length shown.opening.clients
   pub subject : sid_of (state_of shown) r.client ≡ r.subject
@@ -31,24 +31,24 @@ pub record MayServe (shown : Shown) (r : Request) : Type 0 where
   pub version : r.version ≡ version_at shown.rights.phase r.number
 
 -- files keep their promise under a decider, what they were opened with, and where the change of policy stands
-pub record Keeps (d : Decisions) (old new : Shown) : Type 0 where
+pub record Keeps (d : Decisions) (old new : StoreView) : Type 0 where
   pub safe : Safe d new
   pub opening : new.opening ≡ old.opening
   pub phase : new.rights.phase ≡ old.rights.phase
 
 -- a slot of a place follows the number of a request
-abbrev pub is_following : Shown → ℕ → Request → Bool
+abbrev pub is_following : StoreView → ℕ → Request → Bool
 is_following shown place r = is_use_following (Some place) (follows shown) r.number
 
 module _ {A : Type 0} {g : Ghosts A} where
   -- a row that changes nothing replies and asks as the plain row says, which leaves the state as it is
-  abbrev pub Says : Result FileReply Memory → Shown → Operation A g → Operation A g → FileAnswer → Type 0
+  abbrev pub Says : Result FileReply Memory → StoreView → Operation A g → Operation A g → FileAnswer → Type 0
   Says (Ok said) shown before after answer =
       (said ≡ answer.reply) × (state_of shown ≡ answer.state) × HasAsked before after answer.asked
   Says (Err memory) shown before after answer = IsSameOperation before after
 
   -- the same through the slot of a place
-  abbrev pub SaysThrough : ℕ → Result FileReply Memory → Shown → Operation A g → Operation A g → FileAnswer → Type 0
+  abbrev pub SaysThrough : ℕ → Result FileReply Memory → StoreView → Operation A g → Operation A g → FileAnswer → Type 0
   SaysThrough place (Ok said) shown before after answer =
       (said ≡ answer.reply) × (state_of shown ≡ answer.state)
       × HasUsed (is_following shown place (request before)) false before after answer.asked
@@ -56,14 +56,14 @@ module _ {A : Type 0} {g : Ghosts A} where
 
   -- a row replies, changes the state and asks as the plain row says, and what the slots follow stays; want of memory leaves
   -- the files as they were
-  abbrev pub Serves : Result FileReply Memory → Shown → Shown → Operation A g → Operation A g → FileAnswer → Type 0
+  abbrev pub Serves : Result FileReply Memory → StoreView → StoreView → Operation A g → Operation A g → FileAnswer → Type 0
   Serves (Ok said) old new before after answer =
       (said ≡ answer.reply) × (state_of new ≡ answer.state) × (follows new ≡ follows old)
       × Keeps (request before).decisions old new × HasAsked before after answer.asked
   Serves (Err memory) old new before after answer = (new ≡ old) × IsSameOperation before after
 
   -- the same through the slot of a place
-  abbrev pub ServesThrough : ℕ → Result FileReply Memory → Shown → Shown → Operation A g → Operation A g → FileAnswer → Type 0
+  abbrev pub ServesThrough : ℕ → Result FileReply Memory → StoreView → StoreView → Operation A g → Operation A g → FileAnswer → Type 0
   ServesThrough place (Ok said) old new before after answer =
       (said ≡ answer.reply) × (state_of new ≡ answer.state) × (follows new ≡ follows old)
       × Keeps (request before).decisions old new
@@ -71,14 +71,14 @@ module _ {A : Type 0} {g : Ghosts A} where
   ServesThrough place (Err memory) old new before after answer = (new ≡ old) × IsSameOperation before after
 
   -- the same of a row that, where it is done, lets the slots follow this
-  abbrev pub ServesSlots : Follows → Result FileReply Memory → Shown → Shown → Operation A g → Operation A g → FileAnswer → Type 0
+  abbrev pub ServesSlots : Follows → Result FileReply Memory → StoreView → StoreView → Operation A g → Operation A g → FileAnswer → Type 0
   ServesSlots changed (Ok said) old new before after answer =
       (said ≡ answer.reply) × (state_of new ≡ answer.state) × (follows new ≡ when_done said changed (follows old))
       × Keeps (request before).decisions old new × HasAsked before after answer.asked
   ServesSlots changed (Err memory) old new before after answer = (new ≡ old) × IsSameOperation before after
 
   -- the same of any call
-  abbrev pub ServesCall : FileCall → Result FileReply Memory → Shown → Shown → Operation A g → Operation A g → Type 0
+  abbrev pub ServesCall : FileCall → Result FileReply Memory → StoreView → StoreView → Operation A g → Operation A g → Type 0
   ServesCall call (Ok said) old new before after =
       let r = request before in
       let answer = answered r (state_of old) call in
@@ -89,7 +89,7 @@ module _ {A : Type 0} {g : Ghosts A} where
 
 -- for a request, the use of a slot of its client, and the bytes of the slot's file; where the slot follows the request's
 -- number, its bits are those of its mode that the policy allows
-pub record IsHeld (r : Request) (shown : Shown) (slot : ℕ) (usable : Usable) (bytes : List ℕ) : Type 0 where
+pub record IsHeld (r : Request) (shown : StoreView) (slot : ℕ) (usable : Usable) (bytes : List ℕ) : Type 0 where
   pub usage : IsUse r.decisions shown r.client slot usable
   pub bits : usable.number ≡ r.number → usable.bits ≡ bit_and usable.mode (r.decisions.vector r.version r.subject usable.t File)
   pub node : Node

@@ -2,7 +2,7 @@
 use Rattle.std.specs.Prelude.{◌≡◌, ℕ, true, List, [], ◌∷◌, Option, Some, None, Result, Ok, Err, is_some, option_map}
 use Rattle.std.specs.FinMap as maps
 use Rattle.file_tree.specs.Nodes.{Nodes, IsFree, is_directory, path_in, step_from}
-use Rattle.file_tree.specs.Plain.{plain, item_of}
+use Rattle.file_tree.specs.PlainTree.{plain, item_of}
 use Rattle.flask_sid.specs.declared.memory.Memory.{Memory}
 use Rattle.access_vectors.specs.declared.asker.Asker.{Ghosts}
 use Rattle.mode_questions.specs.Requests.{Request}

@@ -29,11 +29,11 @@ pub struct FileCore<F: Callback> {
 }
 
 impl<F: Callback> Model for FileCore<F> {
-    ghost use Rattle.file_store.specs.Stores.{Shown, shown_code};
+    ghost use Rattle.file_store.specs.Stores.{StoreView, view_code};
 
-    ghost Value = { Shown };
+    ghost Value = { StoreView };
 
-    ghost coded = { shown_code };
+    ghost coded = { view_code };
 
     ghost view = { λ core. core.files };
 }
@@ -61,8 +61,8 @@ pub fn new<F: Callback + Drop>(
 impl<F: Callback> Core for FileCore<F> {
     ghost use Rattle.access_vectors.specs.declared.class.Class.TheVariants.{File};
     ghost use Rattle.file_calls.specs.Honest.{honest_answer, formed_stays};
-    ghost use Rattle.file_calls.specs.Plain as plainly;
-    ghost use Rattle.file_calls.specs.Plain.{IsFormed};
+    ghost use Rattle.file_calls.specs.PlainManager as plainly;
+    ghost use Rattle.file_calls.specs.PlainManager.{IsFormed};
     ghost use Rattle.file_calls.specs.States.{FileState, opened_with};
     ghost use Rattle.file_store.specs.Stores as stores;
     ghost use Rattle.file_store.specs.Stores.{Safe, state_of};

@@ -5,7 +5,7 @@ ghost use Rattle.std.specs.FinMap as maps;
 ghost use Rattle.access_vectors.specs.Stale.{slot_place};
 ghost use Rattle.mode_questions.specs.Operations.{request};
 ghost use Rattle.file_tree.specs.Nodes.{path_in};
-ghost use Rattle.file_tree.specs.Plain.{item_of};
+ghost use Rattle.file_tree.specs.PlainTree.{item_of};
 ghost use Rattle.file_calls.specs.SlotCalls.{open_row, opened_at};
 ghost use Rattle.file_store.specs.Stores.{state_of, follows};
 ghost use Rattle.file_store.specs.Uses.{IsFree};

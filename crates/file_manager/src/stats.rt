@@ -4,7 +4,7 @@ ghost use Rattle.std.specs.Prelude.{◌≡◌, true, [], is_some, option_map, If
 ghost use Rattle.std.specs.FinMap as maps;
 ghost use Rattle.mode_questions.specs.Operations.{request, HasAsked};
 ghost use Rattle.file_tree.specs.Nodes.{path_in};
-ghost use Rattle.file_tree.specs.Plain.{item_of};
+ghost use Rattle.file_tree.specs.PlainTree.{item_of};
 ghost use Rattle.file_calls.specs.PathCalls;
 ghost use Rattle.file_store.specs.Stores.{state_of};
 ghost use Rattle.file_manager.specs.Serving.{MayServe, Says};

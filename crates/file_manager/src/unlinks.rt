@@ -4,9 +4,9 @@ ghost use Rattle.std.specs.Prelude.{◌≡◌, ◌<◌, true, length, is_some, o
 ghost use Rattle.std.specs.FinMap as maps;
 ghost use Rattle.mode_questions.specs.Operations.{request};
 ghost use Rattle.file_tree.specs.Nodes.{path_in};
-ghost use Rattle.file_tree.specs.Plain.{item_of};
+ghost use Rattle.file_tree.specs.PlainTree.{item_of};
 ghost use Rattle.file_calls.specs.PathCalls.{unlink_row, unlinked_at};
-ghost use Rattle.file_calls.specs.Plain.{follows_without};
+ghost use Rattle.file_calls.specs.PlainManager.{follows_without};
 ghost use Rattle.file_calls.specs.Walks.{walked};
 ghost use Rattle.file_store.specs.Stores.{state_of, follows};
 ghost use Rattle.file_manager.specs.Serving.{MayServe, ServesSlots};

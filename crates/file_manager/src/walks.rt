@@ -4,7 +4,7 @@ ghost use Rattle.std.specs.Prelude.{◌≡◌, ℕ, ◌<◌, true, List, [], is_
 ghost use Rattle.std.specs.FinMap as maps;
 ghost use Rattle.mode_questions.specs.Operations.{request, HasAsked};
 ghost use Rattle.file_tree.specs.Nodes.{Nodes, path_in};
-ghost use Rattle.file_tree.specs.Plain.{plain};
+ghost use Rattle.file_tree.specs.PlainTree.{plain};
 ghost use Rattle.file_calls.specs.Walks;
 ghost use Rattle.file_calls.specs.Walks.{Walk, walked_from};
 ghost use Rattle.file_manager.specs.Serving.{MayServe};

@@ -6,7 +6,7 @@ use Rattle.access_vectors.specs.Decisions.{Decisions}
 use Rattle.slot_tables.proofs.SlotLemmas.{get-put, get-taken}
 use Rattle.retained_rights.proofs.MapLemmas.{some_same, none_some, some_of}
 use Rattle.file_tree.specs.Nodes.{Nodes, ArePathsOnce, AreInParents, HasNoEntry, is_directory, is_directory_node, is_file, path_in, path_of}
-use Rattle.file_tree.specs.Plain.{same_step}
+use Rattle.file_tree.specs.PlainTree.{same_step}
 use Rattle.file_tree.specs.declared.node.Node.{Node}
 use Rattle.file_tree.specs.declared.step.Step.{Step}
 use Rattle.file_tree.proofs.BelowLemmas.{step_is, step_itself, below_file}

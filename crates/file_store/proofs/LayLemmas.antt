@@ -10,7 +10,7 @@ use Rattle.std.specs.FinMap as maps
 use Rattle.std.proofs.lemmas.Bool.{eqb-true, false≢true}
 use Rattle.access_vectors.specs.Decisions.{Decisions}
 use Rattle.file_tree.specs.Nodes.{Nodes, IsFree, is_directory_node, step_from}
-use Rattle.file_tree.specs.Plain.{PlainTree, Item, IsMirrored, step_cmp, item_of, plain, steps_of}
+use Rattle.file_tree.specs.PlainTree.{PlainTree, Item, IsMirrored, step_cmp, item_of, plain, steps_of}
 use Rattle.file_tree.specs.declared.step.Step.{Step}
 use Rattle.file_tree.proofs.PlainLemmas.{paths_total, paths_apart}
 use Rattle.file_calls.specs.Openings.{IsEntry, AreEntries, has_directory, has_node, is_parent_there, parent_of}

@@ -10,14 +10,14 @@ use Rattle.retained_rights.proofs.MapLemmas.{mapped-empty}
 use Rattle.retained_rights.proofs.Opening.{fit_none}
 use Rattle.retained_rights.proofs.StepLemmas.{step_new}
 use Rattle.file_tree.specs.Nodes.{Nodes}
-use Rattle.file_tree.specs.Plain.{plain, IsWellMade}
+use Rattle.file_tree.specs.PlainTree.{plain, IsWellMade}
 use Rattle.file_calls.specs.Openings.{IsOpening}
 use Rattle.file_calls.specs.States.{laid, root_tree, opened_with}
 use Rattle.file_calls.specs.declared.opening.FileOpening.{FileOpening}
-use Rattle.file_store.specs.Stores.{Shown, IsLinked, IsInStep, Safe, state_of, slots_of, follows}
+use Rattle.file_store.specs.Stores.{StoreView, IsLinked, IsInStep, Safe, state_of, slots_of, follows}
 use Rattle.file_store.proofs.LayLemmas.{AreLabels, known_nodes, labels_laid, labels_root}
 
-abbrev pub opened : FileOpening → Nodes → Rights → Shown
+abbrev pub opened : FileOpening → Nodes → Rights → StoreView
 opened opening nodes rights = record { opening = opening; nodes = nodes; rights = rights }
 
 module _ (opening : FileOpening) (nodes : Nodes) (rights : Rights) (none : rights ≡ no_rights Each File) (made : IsWellMade nodes) where

@@ -11,19 +11,19 @@ use Rattle.retained_rights.specs.Rights.{Rights, Fit, follows_of}
 use Rattle.retained_rights.proofs.MapLemmas.{some_of, kept_some, mapped_alike, mapped-mapped, mapped-retain_keys}
 use Rattle.retained_rights.proofs.StepLemmas as steps
 use Rattle.file_tree.specs.Nodes.{Nodes, is_file, in_place, path_in, path_of, relabelled, with_bytes}
-use Rattle.file_tree.specs.Plain.{PlainTree, plain, plain_without, IsWellMade}
+use Rattle.file_tree.specs.PlainTree.{PlainTree, plain, plain_without, IsWellMade}
 use Rattle.file_tree.specs.declared.node.Node.{Node}
 use Rattle.file_calls.specs.PathCalls.{is_held_at, slots_without, taken_out}
-use Rattle.file_calls.specs.Plain.{follows_moved, follows_without}
+use Rattle.file_calls.specs.PlainManager.{follows_moved, follows_without}
 use Rattle.file_calls.specs.States.{Held, with_tree}
-use Rattle.file_store.specs.Stores.{Shown, IsFileOf, IsLinked, IsInStep, Safe, held_by, state_of, slots_of, follows}
+use Rattle.file_store.specs.Stores.{StoreView, IsFileOf, IsLinked, IsInStep, Safe, held_by, state_of, slots_of, follows}
 use Rattle.file_store.specs.Laws.{safe_is}
 use Rattle.file_store.proofs.Linking.{AreKnown, with_both, safe_moved}
 use Rattle.file_store.proofs.ChangeLemmas.{holds_is, path_stays, file_stays, file_alike, labels_stay, path_beside, file_beside, labels_beside, path_left, file_left, labels_left}
 
 -- other nodes under the same rights, where every file stays, with its label, and stands where it did
-module _ (shown : Shown) (now : Nodes) (step : IsInStep shown) where
-  abbrev pub with_nodes : Shown
+module _ (shown : StoreView) (now : Nodes) (step : IsInStep shown) where
+  abbrev pub with_nodes : StoreView
   with_nodes = record { opening = shown.opening; nodes = now; rights = shown.rights }
 
   step_nodes : IsWellMade now → ((object label : ℕ) → IsFileOf shown.nodes object label → IsFileOf now object label) → IsInStep with_nodes
@@ -44,7 +44,7 @@ module _ (shown : Shown) (now : Nodes) (step : IsInStep shown) where
   }
 
 -- a node is added
-module _ (shown : Shown) (number : ℕ) (child : Node) (unused : maps.get shown.nodes number ≡ None) (now : Nodes) (is : now ≡ maps.insert shown.nodes number child) (step : IsInStep shown) where
+module _ (shown : StoreView) (number : ℕ) (child : Node) (unused : maps.get shown.nodes number ≡ None) (now : Nodes) (is : now ≡ maps.insert shown.nodes number child) (step : IsInStep shown) where
   pub step_added : IsWellMade now → IsInStep (with_nodes shown now step)
   step_added made =
       step_nodes shown now step made
@@ -63,7 +63,7 @@ there_if_file None file = absurd (false≢true file)
 there_if_file (Some node) file = refl
 
 -- the bytes of a file change
-module _ (shown : Shown) (object : ℕ) (file : is_file (maps.get shown.nodes object) ≡ true) (bytes : List ℕ) (now : Nodes) (is : now ≡ with_bytes shown.nodes object bytes) (step : IsInStep shown) where
+module _ (shown : StoreView) (object : ℕ) (file : is_file (maps.get shown.nodes object) ≡ true) (bytes : List ℕ) (now : Nodes) (is : now ≡ with_bytes shown.nodes object bytes) (step : IsInStep shown) where
   node_there : (node : Node) × (maps.get shown.nodes object ≡ Some node)
   node_there = some_of (maps.get shown.nodes object) (there_if_file (maps.get shown.nodes object) file)
 
@@ -89,7 +89,7 @@ module _ (shown : Shown) (object : ℕ) (file : is_file (maps.get shown.nodes ob
       (λ one label is_file. ap (λ n. path_in n one) holding ∙ path_stays shown.nodes object node_there.0 (holder node_there.0) node_there.1 refl one) made
 
 -- a slot is for a node exactly where it holds what stands at the node's path
-held_as : (shown : Shown) → IsInStep shown → (object : ℕ) → is_some (maps.get shown.nodes object) ≡ true → (place : ℕ)
+held_as : (shown : StoreView) → IsInStep shown → (object : ℕ) → is_some (maps.get shown.nodes object) ≡ true → (place : ℕ)
     → is_for object (maps.get (claims_of shown.rights) place) ≡ is_held_at (path_in shown.nodes object) (maps.get (state_of shown).slots place)
 held_as shown step object there place =
     at (maps.get (claims_of shown.rights) place) refl ∙ ap (is_held_at (path_in shown.nodes object)) (sym (get-mapped (λ q claim. held_by shown.nodes claim) (claims_of shown.rights) place))
@@ -99,7 +99,7 @@ held_as shown step object there place =
     at (Some claim) is = sym (holds_is shown.nodes step.tree.once claim.object object (ap is_some (step.slots.claims place claim is).target.held) there)
 
 -- a node is taken out, with the grants on it
-module _ (shown : Shown) (object : ℕ) (there : is_some (maps.get shown.nodes object) ≡ true) (nodes : Nodes) (now : Rights) (is : nodes ≡ maps.remove shown.nodes object)
+module _ (shown : StoreView) (object : ℕ) (there : is_some (maps.get shown.nodes object) ≡ true) (nodes : Nodes) (now : Rights) (is : nodes ≡ maps.remove shown.nodes object)
     (rule : now.rule ≡ shown.rights.rule) (class : now.class ≡ shown.rights.class) (claims : claims_of now ≡ not_for object (claims_of shown.rights) (claims_of shown.rights)) (step : IsInStep shown) where
   pub step_taken : IsWellMade nodes → IsInStep (with_both shown nodes now)
   step_taken made = record {
@@ -139,7 +139,7 @@ module _ (shown : Shown) (object : ℕ) (there : is_some (maps.get shown.nodes o
   follows_taken following = following ∙ (λ i. maps.retain_keys (follows shown) (λ place. not (held_as shown step object there place i)))
 
 -- a node gets another label, with the grants on it
-module _ (shown : Shown) (object : ℕ) (there : is_some (maps.get shown.nodes object) ≡ true) (label : ℕ) (nodes : Nodes) (now : Rights) (is : nodes ≡ relabelled shown.nodes object label)
+module _ (shown : StoreView) (object : ℕ) (there : is_some (maps.get shown.nodes object) ≡ true) (label : ℕ) (nodes : Nodes) (now : Rights) (is : nodes ≡ relabelled shown.nodes object label)
     (rule : now.rule ≡ shown.rights.rule) (class : now.class ≡ shown.rights.class) (claims : claims_of now ≡ all_relabelled object label (claims_of shown.rights)) (step : IsInStep shown) where
   one : (node : Node) × (maps.get shown.nodes object ≡ Some node)
   one = some_of (maps.get shown.nodes object) there

@@ -1,7 +1,7 @@
 -- How the nodes of an opening come to stand in the tree.
 use Rattle.std.specs.Prelude.{◌≡◌, ℕ, ◌<◌, true, false, List, [], length, Some, None, option_map}
 use Rattle.std.specs.FinMap as maps
-use Rattle.file_tree.specs.Plain.{PlainTree, steps_of}
+use Rattle.file_tree.specs.PlainTree.{PlainTree, steps_of}
 use Rattle.file_calls.specs.Openings.{has_directory, has_node, parent_of}
 use Rattle.file_calls.specs.declared.opening.Node.{Node}
 

@@ -12,7 +12,7 @@ use Rattle.retained_rights.specs.Claims.{Claim, Claims, claims_of, AreInStep}
 use Rattle.retained_rights.specs.Rights.{Rights, Fit, follows_of, rights_code}
 use Rattle.retained_rights.specs.declared.rule.Rule.TheVariants.{Each}
 use Rattle.file_tree.specs.Nodes.{Nodes, is_file, path_in}
-use Rattle.file_tree.specs.Plain.{IsWellMade, plain}
+use Rattle.file_tree.specs.PlainTree.{IsWellMade, plain}
 use Rattle.file_tree.specs.contracts.node.Node as node_type
 use Rattle.file_tree.specs.declared.node.Node.{Node}
 use Rattle.file_calls.specs.States.{Held, FileState}
@@ -20,14 +20,14 @@ use Rattle.file_calls.specs.contracts.opening.FileOpening as opening_type
 use Rattle.file_calls.specs.declared.opening.FileOpening.{FileOpening}
 
 -- what contracts see of files and rights: what they were opened with, the nodes by their numbers, and the rights
-pub record Shown : Type 0 where
+pub record StoreView : Type 0 where
   pub opening : FileOpening
   pub nodes : Nodes
   pub rights : Rights
 
 -- how contracts tell such values apart
-abbrev pub shown_code : Coded Shown
-shown_code =
+abbrev pub view_code : Coded StoreView
+view_code =
     code_by (FileOpening × (Nodes × Rights)) (coded× opening_type.the_row.coded (coded× (maps.code coded_ℕ node_type.the_row.coded) rights_code))
     (λ v. (v.opening, (v.nodes, v.rights))) (λ p. record { opening = p.0; nodes = p.1.0; rights = p.1.1 }) (λ _. refl)
 
@@ -40,11 +40,11 @@ abbrev pub slots_of : Nodes → Claims → FinMap nat_cmp Held
 slots_of nodes claims = mapped (λ place claim. held_by nodes claim) claims
 
 -- the state that the plain manager sees
-abbrev pub state_of : Shown → FileState
+abbrev pub state_of : StoreView → FileState
 state_of shown = record { opening = shown.opening; tree = plain shown.nodes; slots = slots_of shown.nodes (claims_of shown.rights) }
 
 -- the policy number that each used slot follows
-abbrev pub follows : Shown → Follows
+abbrev pub follows : StoreView → Follows
 follows shown = follows_of shown.rights
 
 -- a numbered node is a file, and has this label
@@ -60,18 +60,18 @@ pub record IsLinked (clients : List ℕ) (nodes : Nodes) (place : ℕ) (claim : 
   pub source : slice_index clients (place / 256) ≡ claim.s
 
 -- files and rights are in step
-pub record IsInStep (shown : Shown) : Type 0 where
+pub record IsInStep (shown : StoreView) : Type 0 where
   pub tree : IsWellMade shown.nodes
   pub slots : AreInStep Each File (IsLinked shown.opening.clients shown.nodes) shown.rights
 
 -- the promise of files and rights under a decider: they are in step, their identifiers are the decider's, and the rights
 -- are those that the decider gives
-pub record IsSafe (d : Decisions) (shown : Shown) : Type 0 where
+pub record IsSafe (d : Decisions) (shown : StoreView) : Type 0 where
   pub step : IsInStep shown
   pub clients : All (λ sid. IsTrue (d.known sid)) shown.opening.clients
   pub labels : (number : ℕ) (node : Node) → maps.get shown.nodes number ≡ Some node → IsTrue (d.known node.label)
   pub rights : Fit d shown.rights
 
 -- that promise, as a word that rows pass on unread
-unfoldable pub Safe : Decisions → Shown → Type 0
+unfoldable pub Safe : Decisions → StoreView → Type 0
 Safe d shown = IsSafe d shown

@@ -8,11 +8,11 @@ use Rattle.access_vectors.specs.declared.class.Class.TheVariants.{File}
 use Rattle.retained_rights.specs.declared.grant.Usable.{Usable}
 use Rattle.file_tree.specs.Nodes.{path_in}
 use Rattle.file_calls.specs.States.{sid_of}
-use Rattle.file_store.specs.Stores.{Shown, IsFileOf, state_of, follows}
+use Rattle.file_store.specs.Stores.{StoreView, IsFileOf, state_of, follows}
 
 -- under a decider, a use of a client's slot is of the slot's file and mode, for the pair of the client and of the file's
 -- present label, and its bits are those of its mode that the policy number which it follows allows
-pub record IsUse (d : Decisions) (shown : Shown) (client slot : ℕ) (usable : Usable) : Type 0 where
+pub record IsUse (d : Decisions) (shown : StoreView) (client slot : ℕ) (usable : Usable) : Type 0 where
   pub held : maps.get (state_of shown).slots (slot_place client slot)
       ≡ Some (record { path = path_in shown.nodes usable.object; mode = usable.mode })
   pub following : maps.get (follows shown) (slot_place client slot) ≡ Some usable.number
@@ -24,6 +24,6 @@ pub record IsUse (d : Decisions) (shown : Shown) (client slot : ℕ) (usable : U
       → usable.bits ≡ bit_and usable.mode (d.vector (version_at shown.rights.phase number) usable.s usable.t File)
 
 -- a client's slot is free
-pub record IsFree (shown : Shown) (client slot : ℕ) : Type 0 where
+pub record IsFree (shown : StoreView) (client slot : ℕ) : Type 0 where
   pub held : maps.get (state_of shown).slots (slot_place client slot) ≡ None
   pub following : maps.get (follows shown) (slot_place client slot) ≡ None

@@ -6,9 +6,9 @@ ghost use Rattle.access_vectors.specs.Decisions.{Decisions};
 ghost use Rattle.access_vectors.specs.Phases.{version_at, MayName};
 ghost use Rattle.file_tree.specs.Bytes.{written};
 ghost use Rattle.file_tree.specs.Nodes.{HasNoEntry, IsFree, bytes_of, is_directory, is_file, path_in, step_from};
-ghost use Rattle.file_tree.specs.Plain.{plain_relabelled, plain_with_bytes};
+ghost use Rattle.file_tree.specs.PlainTree.{plain_relabelled, plain_with_bytes};
 ghost use Rattle.file_calls.specs.PathCalls.{taken_out};
-ghost use Rattle.file_calls.specs.Plain.{follows_moved, follows_without};
+ghost use Rattle.file_calls.specs.PlainManager.{follows_moved, follows_without};
 ghost use Rattle.file_calls.specs.States.{with_tree};
 ghost use Rattle.file_store.specs.Stores.{Safe, state_of, follows};
 

@@ -6,7 +6,7 @@ ghost use Rattle.access_vectors.specs.Decisions.{Decisions};
 ghost use Rattle.access_vectors.specs.declared.phase.Phase.{Phase};
 ghost use Rattle.retained_rights.specs.Rules.{Meets};
 ghost use Rattle.retained_rights.specs.declared.rule.Rule.{Rule};
-ghost use Rattle.file_tree.specs.Plain.{IsWellMade, plain, item_of, steps_of};
+ghost use Rattle.file_tree.specs.PlainTree.{IsWellMade, plain, item_of, steps_of};
 ghost use Rattle.file_calls.specs.Openings.{AreNodes, IsOpening};
 ghost use Rattle.file_calls.specs.States.{opened_with, sid_of};
 ghost use Rattle.file_store.specs.Laying.{MayLay};
@@ -20,7 +20,7 @@ use retained_rights::{Callback, Grants, Rule};
 use std::alloc::Global;
 use std::marker::Model;
 
-/// The tree of files, and a grant for each used slot. Contracts see a value `Shown`. A change of policy is made on the grants
+/// The tree of files, and a grant for each used slot. Contracts see a value `StoreView`. A change of policy is made on the grants
 /// themselves, and leaves what each is for.
 #[derive(Drop)]
 pub struct Files<F: Callback> {
@@ -30,11 +30,11 @@ pub struct Files<F: Callback> {
 }
 
 impl<F: Callback> Model for Files<F> {
-    ghost use Rattle.file_store.specs.Stores.{Shown, IsInStep, shown_code};
+    ghost use Rattle.file_store.specs.Stores.{StoreView, IsInStep, view_code};
 
-    ghost Value = { Shown };
+    ghost Value = { StoreView };
 
-    ghost coded = { shown_code };
+    ghost coded = { view_code };
 
     ghost view = { λ files. record { opening = files.opening; nodes = files.tree; rights = files.grants } };
 

@@ -16,7 +16,7 @@ use Rattle.file_tree.specs.declared.step.Step.{Step}
 use Rattle.file_tree.specs.declared.node.Node.{Node}
 use Rattle.file_tree.specs.Shelves.{Numbers}
 use Rattle.file_tree.specs.Nodes.{Nodes, IsAt, IsFree, IsShelf, HasEntry, HasNoEntry, ArePathsOnce, AreInParents, path_of, path_in, step_from}
-use Rattle.file_tree.specs.Plain.{step_cmp, same_step, Item, PlainTree, item_of, item_in, steps_of, plain, step_below, name_under, shelf_below, names_below, has_entry_below}
+use Rattle.file_tree.specs.PlainTree.{step_cmp, same_step, Item, PlainTree, item_of, item_in, steps_of, plain, step_below, name_under, shelf_below, names_below, has_entry_below}
 use Rattle.file_tree.proofs.RowLemmas.{true_or_false}
 use Rattle.file_tree.proofs.Paths.{same_some, none_some, none_unless, not_empty, same_front, same_name, the_name}
 use Rattle.file_tree.proofs.PlainLemmas.{paths_total, paths_apart, standing, stands}

@@ -4,3 +4,4 @@ pub mod Paths
 pub mod TreeLemmas
 pub mod PlainLemmas
 pub mod BelowLemmas
+pub mod FileLemmas

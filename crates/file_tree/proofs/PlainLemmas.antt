@@ -14,7 +14,7 @@ use Rattle.file_tree.specs.declared.step.Step.{Step}
 use Rattle.file_tree.specs.declared.node.Node.{Node}
 use Rattle.file_tree.specs.Shelves.{Places}
 use Rattle.file_tree.specs.Nodes.{Nodes, IsFree, IsTree, ArePathsOnce, is_directory, is_directory_node, path_of}
-use Rattle.file_tree.specs.Plain.{step_cmp, Item, IsMirrored, IsWellMade, item_of, plain}
+use Rattle.file_tree.specs.PlainTree.{step_cmp, Item, IsMirrored, IsWellMade, item_of, plain}
 use Rattle.file_tree.proofs.RowLemmas.{true_or_false}
 use Rattle.file_tree.proofs.Paths.{same_some, none_some, none_unless}
 

@@ -1,4 +1,4 @@
 pub mod Shelves
 pub mod Nodes
 pub mod Bytes
-pub mod Plain
+pub mod PlainTree

@@ -4,7 +4,7 @@ ghost use Rattle.std.specs.Prelude.{◌≡◌, true, length, take, drop, IfOk, M
 ghost use Rattle.std.specs.List.{list_any};
 ghost use Rattle.std.specs.FinMap as maps;
 ghost use Rattle.file_tree.specs.Nodes;
-ghost use Rattle.file_tree.specs.Plain.{plain, names_below, has_entry_below};
+ghost use Rattle.file_tree.specs.PlainTree.{plain, names_below, has_entry_below};
 ghost use Rattle.file_tree.specs.Nodes.{HasEntry, HasNoEntry, IsCount, IsPage, is_directory, path_in};
 
 use crate::node::Node;

@@ -4,7 +4,7 @@ ghost use Rattle.std.specs.Prelude.{◌≡◌, ◌++◌, true, [], None, Some, i
 ghost use Rattle.std.specs.FinMap as maps;
 ghost use Rattle.std.specs.Option.{option_copied};
 ghost use Rattle.file_tree.specs.Nodes.{AreInParents, ArePathsOnce, IsAt, IsFree, HasNoEntry, added, is_directory, path_in, step_from};
-ghost use Rattle.file_tree.specs.Plain.{IsMirrored, IsWellMade, plain, plain_without, item_of, item_in, steps_of};
+ghost use Rattle.file_tree.specs.PlainTree.{IsMirrored, IsWellMade, plain, plain_without, item_of, item_in, steps_of};
 ghost use Rattle.file_tree.specs.Shelves.{place_of};
 
 use crate::entries::EntryIndex;

@@ -9,9 +9,11 @@ mod calls;
 mod memory;
 mod sink;
 mod source;
+mod steady;
 mod streams;
 
 pub use memory::{MemorySink, MemorySource};
 pub use sink::{Put, Sink};
 pub use source::{Got, Source};
+pub use steady::{SteadySink, SteadySource};
 pub use streams::{ReaderSource, WriterSink};

@@ -1,6 +1,6 @@
 //! Growing texts and data.
 
-ghost use Rattle.std.specs.Prelude.{◌≡◌, ◌==◌, [], ◌∷◌, ◌++◌, length, OnOk, OnErr, IfOk, slice_get};
+ghost use Rattle.std.specs.Prelude.{◌≡◌, ◌==◌, ◌+◌, ◌-◌, ◌≤◌, [], ◌∷◌, ◌++◌, length, take, drop, replicate, OnOk, OnErr, IfOk, slice_get};
 ghost use Rattle.std.specs.Option.{option_copied};
 
 use crate::Memory;
@@ -64,6 +64,53 @@ impl Piece {
     {
         self.bytes.extend_from_slice(bytes)?;
         Ok(())
+    }
+
+    /// Writes bytes from a place on, over those that stand there and past the end; a gap before them is filled with a
+    /// byte. After `Memory` the piece is as before.
+    pub fn write(&mut self, at: usize, bytes: &[u8], filler: u8) -> Result<(), Memory>
+        ensures ok { OnOk result (self.new
+            ≡ (take at self.old ++ replicate (at - length self.old) filler) ++ bytes.now ++ drop (at + length bytes.now) self.old) }
+        ensures err { OnErr result (self.new ≡ self.old) }
+    {
+        let len = self.bytes.len();
+        if len <= at {
+            return self.write_past(at, bytes, filler);
+        }
+        if bytes.len() <= len - at {
+            self.bytes.as_mut_slice()[at..at + bytes.len()].copy_from_slice(bytes);
+            return Ok(());
+        }
+        let (within, past) = bytes.split_at(len - at);
+        self.bytes.extend_from_slice(past)?;
+        self.bytes.as_mut_slice()[at..len].copy_from_slice(within);
+        Ok(())
+    }
+
+    // Writes bytes from a place on that is not below the length.
+    fn write_past(&mut self, at: usize, bytes: &[u8], filler: u8) -> Result<(), Memory>
+        requires { length self.old ≤ at }
+        ensures ok { OnOk result (self.new ≡ (self.old ++ replicate (at - length self.old) filler) ++ bytes.now) }
+        ensures err { OnErr result (self.new ≡ self.old) }
+    {
+        let len = self.bytes.len();
+        let written = self.fill_and_extend(at, bytes, filler);
+        if written.is_err() {
+            self.bytes.truncate(len);
+        }
+        written
+    }
+
+    // Fills up to a length, and adds bytes. After `Memory` some of that may have been done.
+    fn fill_and_extend(&mut self, len: usize, bytes: &[u8], filler: u8) -> Result<(), Memory>
+        requires { length self.old ≤ len }
+        ensures ok { OnOk result (self.new ≡ (self.old ++ replicate (len - length self.old) filler) ++ bytes.now) }
+        ensures err { take (length self.old) self.new ≡ self.old }
+    {
+        for _ in self.bytes.len()..len {
+            self.bytes.push(filler)?;
+        }
+        self.extend(bytes)
     }
 
     /// Takes all bytes off, and keeps the memory.

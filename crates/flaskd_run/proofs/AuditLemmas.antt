@@ -14,9 +14,9 @@ use Rattle.session_text.specs.declared.session.ClientLine.{ClientLine}
 use Rattle.session_text.specs.declared.session.RunLine.{RunLine}
 use Rattle.session_text.specs.declared.session.Run.{Run}
 use Rattle.session_text.specs.declared.session.Run.TheVariants as run
-use Rattle.session_desk.specs.Days.{Day}
-use Rattle.session_desk.specs.Desks.{LastAsked, asked_of}
-use Rattle.flaskd_run.specs.Serial.{asked_by, asked_in, caller_of, caller_audit, day_after, line_audit, lines_audit, audit_text}
+use Rattle.session_managers.specs.SessionStates.{SessionState}
+use Rattle.session_managers.specs.SessionViews.{LastAsked, asked_of}
+use Rattle.flaskd_run.specs.Serial.{asked_by, asked_in, caller_of, caller_audit, state_after, line_audit, lines_audit, audit_text}
 use Rattle.flaskd_run.specs.Underway.{IsLogged}
 use Rattle.run_output.specs.Logged.{logged_text}
 use Rattle.flaskd_run.specs.declared.lines.Caller.{Caller}
@@ -26,16 +26,16 @@ pub logged_none : (log : List (List AuditLine)) (lines : List AuditLine) → lin
 logged_none log lines none = rw none (gains_nothing log)
 
 -- what a caller's manager was asked is what its line asked
-pub asked_as : (day : Day) (n : ℕ) (asks : Run) (asked : LastAsked) (caller : Caller) → caller_of day n asks ≡ Some caller → asked_of asked caller.manager ≡ asked_in asked asks
-asked_as day n (run.File client call) asked caller is = let same = is in cc
-asked_as day n (run.Process client call) asked caller is = let same = is in cc
-asked_as day n (run.Port client call) asked caller is = let same = is in cc
-asked_as day n (run.Begin client of) asked caller is = cc
-asked_as day n (run.End client of) asked caller is = cc
-asked_as day n (run.Notify version) asked caller is = cc
-asked_as day n (run.Update most) asked caller is = cc
-asked_as day n run.Ack asked caller is = cc
-asked_as day n run.Force asked caller is = cc
+pub asked_as : (state : SessionState) (n : ℕ) (asks : Run) (asked : LastAsked) (caller : Caller) → caller_of state n asks ≡ Some caller → asked_of asked caller.manager ≡ asked_in asked asks
+asked_as state n (run.File client call) asked caller is = let same = is in cc
+asked_as state n (run.Process client call) asked caller is = let same = is in cc
+asked_as state n (run.Port client call) asked caller is = let same = is in cc
+asked_as state n (run.Begin client of) asked caller is = cc
+asked_as state n (run.End client of) asked caller is = cc
+asked_as state n (run.Notify version) asked caller is = cc
+asked_as state n (run.Update most) asked caller is = cc
+asked_as state n run.Ack asked caller is = cc
+asked_as state n run.Force asked caller is = cc
 
 -- nothing is logged yet
 pub logged_start : (log : List (List AuditLine)) (all : List AuditLine) → IsLogged log log all all
@@ -67,9 +67,9 @@ logged_as contexts count log lines n (client ∷ clients) gains =
     rw (own, logged_as contexts count log lines (n + 1) clients gains) refl
 
 -- a line ran, and its audit lines were logged
-pub logged_line : (audited : Bool) (policy : PolicyParts) (contexts : List (ContextOf (List ℕ))) (d d' : Decisions) (day day' : Day) (line : RunLine) (rest items : List RunLine) (old mid new : List (List AuditLine)) (all : List AuditLine)
-    → IsLogged old mid all (lines_audit audited policy contexts d day items) → items ≡ line ∷ rest → d' ≡ d → day' ≡ day_after d' day line.run
-    → Gains mid new (line_audit audited policy contexts d' day line.line line.run) → IsLogged old new all (lines_audit audited policy contexts d day' rest)
-logged_line audited policy contexts d d' day day' line rest items old mid new all logged items_is same day_is gains =
+pub logged_line : (audited : Bool) (policy : PolicyParts) (contexts : List (ContextOf (List ℕ))) (d d' : Decisions) (state state' : SessionState) (line : RunLine) (rest items : List RunLine) (old mid new : List (List AuditLine)) (all : List AuditLine)
+    → IsLogged old mid all (lines_audit audited policy contexts d state items) → items ≡ line ∷ rest → d' ≡ d → state' ≡ state_after d' state line.run
+    → Gains mid new (line_audit audited policy contexts d' state line.line line.run) → IsLogged old new all (lines_audit audited policy contexts d state' rest)
+logged_line audited policy contexts d d' state state' line rest items old mid new all logged items_is same state_is gains =
     let here = rw items_is at logged in
-    rw (day_is, same) (logged_more old mid new all (line_audit audited policy contexts d day line.line line.run) _ here (rw same at gains))
+    rw (state_is, same) (logged_more old mid new all (line_audit audited policy contexts d state line.line line.run) _ here (rw same at gains))

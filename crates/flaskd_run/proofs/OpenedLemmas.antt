@@ -12,42 +12,42 @@ use Rattle.session_text.proofs.SessionLemmas.{few_clients, few_lines}
 use Rattle.session_text.specs.declared.session.ClientLine.{ClientLine}
 use Rattle.session_text.specs.declared.session.RunLine.{RunLine}
 use Rattle.session_text.specs.declared.session.SessionParts.{SessionParts}
-use Rattle.session_desk.specs.Days.{Day, morning_of}
-use Rattle.session_desk.specs.Desks.{Standing, none_asked, no_events, AreOpenings}
-use Rattle.session_desk.specs.declared.opening.Openings.{Openings}
+use Rattle.session_managers.specs.SessionStates.{SessionState, opening_state}
+use Rattle.session_managers.specs.SessionViews.{Standing, none_asked, no_events, AreOpenings}
+use Rattle.session_managers.specs.declared.opening.Openings.{Openings}
 use Rattle.threaded_session.specs.Plans as plans
 use Rattle.threaded_session.specs.Plans.{IsPlanOf}
 use Rattle.threaded_session.specs.declared.plan.Plan.{Plan}
-use Rattle.flaskd_run.specs.Serial.{openings_of, lines_text, lines_audit, day_below, summary_of, run_text, text_on, summary_on}
+use Rattle.flaskd_run.specs.Serial.{openings_of, lines_text, lines_audit, state_below, summary_of, run_text, text_on, summary_on}
 use Rattle.flaskd_run.specs.Underway.{MayRun}
 use Rattle.run_output.specs.Logged.{logged_text}
 use Rattle.flaskd_run.proofs.AuditLemmas.{logged_as}
 use Rattle.flaskd_run.proofs.SerialLemmas.{session_may}
 
--- what a run prints, by the log that it kept and the day that it came to
-pub run_parts : (d : Decisions) (audited : Bool) (policy : PolicyParts) (contexts : List (ContextOf (List ℕ))) (clients : List ClientLine) (items : List RunLine) (start day : Day) (count : ℕ) (old new : List (List AuditLine))
-    → old ≡ replicate count [] → Gains old new (lines_audit audited policy contexts d start items) → day ≡ day_below d start items
-    → run_text audited policy contexts d clients start items ≡ lines_text contexts d clients start items ++ (logged_text contexts new 0 clients ++ summary_of day)
-run_parts d audited policy contexts clients items start day count old new old_is gains day_is =
+-- what a run prints, by the log that it kept and the state that it came to
+pub run_parts : (d : Decisions) (audited : Bool) (policy : PolicyParts) (contexts : List (ContextOf (List ℕ))) (clients : List ClientLine) (items : List RunLine) (start state : SessionState) (count : ℕ) (old new : List (List AuditLine))
+    → old ≡ replicate count [] → Gains old new (lines_audit audited policy contexts d start items) → state ≡ state_below d start items
+    → run_text audited policy contexts d clients start items ≡ lines_text contexts d clients start items ++ (logged_text contexts new 0 clients ++ summary_of state)
+run_parts d audited policy contexts clients items start state count old new old_is gains state_is =
     let printed = logged_as contexts count new (lines_audit audited policy contexts d start items) 0 clients (rw old_is at gains) in
-    rw (printed, day_is) refl
+    rw (printed, state_is) refl
 
--- what a run prints on the desk that it opens
-pub opened_text : {Decider : Type 0} (decides : Decider → Decisions) (decider : Decider) (openings : Openings) (desk : Standing Decider) (audited : Bool) (policy : PolicyParts) (contexts : List (ContextOf (List ℕ))) (clients : List ClientLine) (items : List RunLine)
-    → desk ≡ record { day = morning_of openings; decider = decider; asked = none_asked; events = no_events; whole = true }
-    → run_text audited policy contexts (decides desk.decider) clients desk.day items ≡ run_text audited policy contexts (decides decider) clients (morning_of openings) items
-opened_text decides decider openings desk audited policy contexts clients items desk_is = rw desk_is refl
+-- what a run prints on the managers that it opens
+pub opened_text : {Decider : Type 0} (decides : Decider → Decisions) (decider : Decider) (openings : Openings) (managed : Standing Decider) (audited : Bool) (policy : PolicyParts) (contexts : List (ContextOf (List ℕ))) (clients : List ClientLine) (items : List RunLine)
+    → managed ≡ record { state = opening_state openings; decider = decider; asked = none_asked; events = no_events; whole = true }
+    → run_text audited policy contexts (decides managed.decider) clients managed.state items ≡ run_text audited policy contexts (decides decider) clients (opening_state openings) items
+opened_text decides decider openings managed audited policy contexts clients items managers_are = rw managers_are refl
 
--- the summary of lines on the desk that it opens
-pub opened_sum : {Decider : Type 0} (decides : Decider → Decisions) (decider : Decider) (openings : Openings) (desk : Standing Decider) (items : List RunLine)
-    → desk ≡ record { day = morning_of openings; decider = decider; asked = none_asked; events = no_events; whole = true }
-    → summary_of (day_below (decides desk.decider) desk.day items) ≡ summary_of (day_below (decides decider) (morning_of openings) items)
-opened_sum decides decider openings desk items desk_is = rw desk_is refl
+-- the summary of lines on the managers that it opens
+pub opened_sum : {Decider : Type 0} (decides : Decider → Decisions) (decider : Decider) (openings : Openings) (managed : Standing Decider) (items : List RunLine)
+    → managed ≡ record { state = opening_state openings; decider = decider; asked = none_asked; events = no_events; whole = true }
+    → summary_of (state_below (decides managed.decider) managed.state items) ≡ summary_of (state_below (decides decider) (opening_state openings) items)
+opened_sum decides decider openings managed items managers_are = rw managers_are refl
 
 -- the lines of a session may run from its openings on
 pub begun_may : (d : Decisions) (session : SessionParts) (openings : Openings) (count : ℕ) (items : List RunLine)
     → openings ≡ openings_of session → count ≡ length session.clients → items ≡ session.lines
-    → IsSession session → length items < 2 ^ 64 → ((sid : ℕ) → IsSidOf session.policy.contexts sid → IsTrue (d.known sid)) → MayRun d count (morning_of openings) items
+    → IsSession session → length items < 2 ^ 64 → ((sid : ℕ) → IsSidOf session.policy.contexts sid → IsTrue (d.known sid)) → MayRun d count (opening_state openings) items
 begun_may d session openings count items openings_is count_is items_is is few known =
     let lines_few : length session.lines < 2 ^ 64 = rw items_is at few in
     rw (openings_is, count_is, items_is) (session_may session d is lines_few known)
@@ -55,13 +55,13 @@ begun_may d session openings count items openings_is count_is items_is is few kn
 -- what a run of a session's parts prints is what the session prints
 pub text_is : (d : Decisions) (session : SessionParts) (contexts : List (ContextOf (List ℕ))) (openings : Openings) (policy : PolicyParts) (clients : List ClientLine) (items : List RunLine)
     → openings ≡ openings_of session → policy ≡ session.policy → clients ≡ session.clients → items ≡ session.lines
-    → run_text session.audit policy contexts d clients (morning_of openings) items ≡ text_on contexts d session
+    → run_text session.audit policy contexts d clients (opening_state openings) items ≡ text_on contexts d session
 unfolding text_on
 text_is d session contexts openings policy clients items openings_is policy_is clients_is items_is = rw (openings_is, policy_is, clients_is, items_is) refl
 
 -- the summary of a session's lines is the session's summary
 pub sum_is : (d : Decisions) (session : SessionParts) (openings : Openings) (items : List RunLine) → openings ≡ openings_of session → items ≡ session.lines
-    → summary_of (day_below d (morning_of openings) items) ≡ summary_on d session
+    → summary_of (state_below d (opening_state openings) items) ≡ summary_on d session
 unfolding summary_on
 sum_is d session openings items openings_is items_is = rw (openings_is, items_is) refl
 

@@ -3,7 +3,7 @@ use Rattle.std.proofs.Common.{◌≡◌, ◌∙◌, ◌<◌, ◌≤◌, ◌⊎�
 use Rattle.std.proofs.lemmas.Bool.Decides.{nat_tests}
 use Rattle.flask_sid.specs.declared.context.ContextOf.{ContextOf}
 use Rattle.policy_model.specs.declared.policy.PolicyParts.{PolicyParts}
-use Rattle.policy_model.specs.Kept.{Kept}
+use Rattle.policy_model.specs.Kept.{IsWholePolicy}
 use Rattle.policy_versions.proofs.KindLemmas.{kinds_few}
 use Rattle.flow_query.specs.Hops.{is_node}
 use Rattle.flow_query.specs.Paths.{Graph, IsPath, IsNotAfter, IsAnswer, HasNoPath}
@@ -15,7 +15,7 @@ use Rattle.flaskd_run.specs.declared.paths.PathAnswer.{PathAnswer}
 use Rattle.flaskd_run.specs.declared.paths.PathAnswer.TheVariants as answer
 
 -- the places of nodes are few
-pub node_small : (policy : PolicyParts) (contexts : List (ContextOf (List ℕ))) (place : ℕ) → Kept policy → is_node policy contexts place ≡ true → place < 128
+pub node_small : (policy : PolicyParts) (contexts : List (ContextOf (List ℕ))) (place : ℕ) → IsWholePolicy policy → is_node policy contexts place ≡ true → place < 128
 unfolding is_node
 node_small policy contexts place kept is =
     let declared : place < length policy.kinds = grind (arith, nat_tests, is) in

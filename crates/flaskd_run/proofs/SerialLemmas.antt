@@ -14,13 +14,13 @@ use Rattle.access_vectors.specs.declared.change.NotifyFault.{NotifyFault}
 use Rattle.access_vectors.specs.declared.change.NotifyFault.TheVariants as faults
 use Rattle.managed.specs.Posts.{Post, settled_if}
 use Rattle.policy_model.specs.declared.policy.ContextLine.{ContextLine}
-use Rattle.file_calls.specs.Plain as file
-use Rattle.file_calls.specs.Plain.{IsNamed}
-use Rattle.process_calls.specs.Plain as process
+use Rattle.file_calls.specs.PlainManager as file
+use Rattle.file_calls.specs.PlainManager.{IsNamed}
+use Rattle.process_calls.specs.PlainManager as process
 use Rattle.process_calls.specs.States.{ProcessState}
 use Rattle.process_calls.specs.declared.call.ProcessCall.{ProcessCall}
 use Rattle.process_calls.specs.declared.call.ProcessCall.TheVariants as process_call
-use Rattle.port_calls.specs.Plain as port
+use Rattle.port_calls.specs.PlainManager as port
 use Rattle.port_calls.specs.States.{PortState}
 use Rattle.port_calls.specs.declared.call.PortCall.{PortCall}
 use Rattle.file_calls.specs.States.{FileState}
@@ -34,10 +34,10 @@ use Rattle.session_text.specs.declared.session.SessionParts.{SessionParts}
 use Rattle.session_text.specs.declared.session.Run.{Run}
 use Rattle.session_text.specs.declared.session.Run.TheVariants as run
 use Rattle.session_text.specs.declared.session.RunLine.{RunLine}
-use Rattle.session_desk.specs.Days.{Day, morning_of, refusal_of, day_notified, counted_change, is_complete, ack_all_of, force_all_of}
-use Rattle.session_desk.specs.Desks.{AreOpenings, HasClients, IsSameOpening}
-use Rattle.session_desk.specs.declared.opening.Openings.{Openings}
-use Rattle.flaskd_run.specs.Serial.{day_after, day_below, line_text, lines_text, morning, openings_of}
+use Rattle.session_managers.specs.SessionStates.{SessionState, opening_state, refusal_of, state_notified, counted_change, is_complete, ack_all_of, force_all_of}
+use Rattle.session_managers.specs.SessionViews.{AreOpenings, HasClients, IsSameOpening}
+use Rattle.session_managers.specs.declared.opening.Openings.{Openings}
+use Rattle.flaskd_run.specs.Serial.{state_after, state_below, line_text, lines_text, first_state, openings_of}
 use Rattle.flaskd_run.specs.Underway.{MayRun, IsLeft}
 use Rattle.policy_model.specs.declared.policy.PolicyParts.{PolicyParts}
 use Rattle.policy_versions.specs.Closure.{AreContexts, declared_contexts}
@@ -49,16 +49,16 @@ use Rattle.run_output.specs.declared.stop.RunStop.TheVariants as run_stop
 use Rattle.run_output.proofs.WritingLemmas.{written_more, front_of_part, adds_more}
 
 -- a line ran and was written
-pub line_written : (contexts : List (ContextOf (List ℕ))) (d d' : Decisions) (clients : List ClientLine) (day day' : Day) (line : RunLine) (rest items : List RunLine) (before now later : Option (List ℕ)) (whole out : List ℕ) → IsOffered before now whole (lines_text contexts d clients day items) → items ≡ line ∷ rest → d' ≡ d → out ≡ line_text contexts d' clients day line.line line.run → day' ≡ day_after d' day line.run → Adds now later out → IsOffered before later whole (lines_text contexts d clients day' rest)
-line_written contexts d d' clients day day' line rest items before now later whole out offered items_is same text day_is added =
+pub line_written : (contexts : List (ContextOf (List ℕ))) (d d' : Decisions) (clients : List ClientLine) (state state' : SessionState) (line : RunLine) (rest items : List RunLine) (before now later : Option (List ℕ)) (whole out : List ℕ) → IsOffered before now whole (lines_text contexts d clients state items) → items ≡ line ∷ rest → d' ≡ d → out ≡ line_text contexts d' clients state line.line line.run → state' ≡ state_after d' state line.run → Adds now later out → IsOffered before later whole (lines_text contexts d clients state' rest)
+line_written contexts d d' clients state state' line rest items before now later whole out offered items_is same text state_is added =
     let here = rw items_is at offered in
-    rw (day_is, same) (written_more before now later whole (line_text contexts d clients day line.line line.run) _ here (rw (text, same) at added))
+    rw (state_is, same) (written_more before now later whole (line_text contexts d clients state line.line line.run) _ here (rw (text, same) at added))
 
 -- a line ran, and a front of it was written
-pub line_failed : (contexts : List (ContextOf (List ℕ))) (d d' : Decisions) (clients : List ClientLine) (day : Day) (line : RunLine) (rest items : List RunLine) (before now later : Option (List ℕ)) (whole out : List ℕ) → IsOffered before now whole (lines_text contexts d clients day items) → items ≡ line ∷ rest → d' ≡ d → out ≡ line_text contexts d' clients day line.line line.run → AddsFront now later out → AddsFront before later whole
-line_failed contexts d d' clients day line rest items before now later whole out offered items_is same text added =
+pub line_failed : (contexts : List (ContextOf (List ℕ))) (d d' : Decisions) (clients : List ClientLine) (state : SessionState) (line : RunLine) (rest items : List RunLine) (before now later : Option (List ℕ)) (whole out : List ℕ) → IsOffered before now whole (lines_text contexts d clients state items) → items ≡ line ∷ rest → d' ≡ d → out ≡ line_text contexts d' clients state line.line line.run → AddsFront now later out → AddsFront before later whole
+line_failed contexts d d' clients state line rest items before now later whole out offered items_is same text added =
     let here = rw items_is at offered in
-    front_of_part before now later whole (line_text contexts d clients day line.line line.run) _ here (rw (text, same) at added)
+    front_of_part before now later whole (line_text contexts d clients state line.line line.run) _ here (rw (text, same) at added)
 
 -- what holds of each line holds of the lines behind the first
 pub all_behind : {X : Type 0} (P : X → Type 0) (items rest : List X) (x : X) → items ≡ x ∷ rest → All P items → All P rest
@@ -74,24 +74,24 @@ no_items [] none = refl
 no_items (x ∷ xs) none = absurd (omega arith)
 
 -- a line counts at most one call
-pub calls_after : (d : Decisions) (day : Day) (asks : Run) → (day_after d day asks).calls ≤ day.calls + 1
-calls_after d day (run.File client call) = omega arith
-calls_after d day (run.Process client call) = omega arith
-calls_after d day (run.Port client call) = omega arith
-calls_after d day (run.Begin client manager.File) = omega arith
-calls_after d day (run.Begin client manager.Process) = omega arith
-calls_after d day (run.Begin client manager.Port) = omega arith
-calls_after d day (run.End client manager.File) = omega arith
-calls_after d day (run.End client manager.Process) = omega arith
-calls_after d day (run.End client manager.Port) = omega arith
-calls_after d day (run.Notify version) = noticed_calls (refusal_of d day version)
+pub calls_after : (d : Decisions) (state : SessionState) (asks : Run) → (state_after d state asks).calls ≤ state.calls + 1
+calls_after d state (run.File client call) = omega arith
+calls_after d state (run.Process client call) = omega arith
+calls_after d state (run.Port client call) = omega arith
+calls_after d state (run.Begin client manager.File) = omega arith
+calls_after d state (run.Begin client manager.Process) = omega arith
+calls_after d state (run.Begin client manager.Port) = omega arith
+calls_after d state (run.End client manager.File) = omega arith
+calls_after d state (run.End client manager.Process) = omega arith
+calls_after d state (run.End client manager.Port) = omega arith
+calls_after d state (run.Notify version) = noticed_calls (refusal_of d state version)
   where
-    noticed_calls : (refusal : Option NotifyFault) → (day_notified day version refusal).calls ≤ day.calls + 1
+    noticed_calls : (refusal : Option NotifyFault) → (state_notified state version refusal).calls ≤ state.calls + 1
     noticed_calls None = omega arith
     noticed_calls (Some fault) = omega arith
-calls_after d day (run.Update most) = omega arith
-calls_after d day run.Ack = omega arith
-calls_after d day run.Force = omega arith
+calls_after d state (run.Update most) = omega arith
+calls_after d state run.Ack = omega arith
+calls_after d state run.Force = omega arith
 
 -- one change at most is counted
 change_counted : (complete : Bool) (changes : ℕ) → counted_change complete changes ≤ changes + 1
@@ -99,27 +99,27 @@ change_counted true changes = omega arith
 change_counted false changes = omega arith
 
 -- a line completes at most one change
-pub changes_after : (d : Decisions) (day : Day) (asks : Run) → (day_after d day asks).changes ≤ day.changes + 1
-changes_after d day (run.File client call) = omega arith
-changes_after d day (run.Process client call) = omega arith
-changes_after d day (run.Port client call) = omega arith
-changes_after d day (run.Begin client manager.File) = omega arith
-changes_after d day (run.Begin client manager.Process) = omega arith
-changes_after d day (run.Begin client manager.Port) = omega arith
-changes_after d day (run.End client manager.File) = omega arith
-changes_after d day (run.End client manager.Process) = omega arith
-changes_after d day (run.End client manager.Port) = omega arith
-changes_after d day (run.Notify version) = noticed_changes (refusal_of d day version)
+pub changes_after : (d : Decisions) (state : SessionState) (asks : Run) → (state_after d state asks).changes ≤ state.changes + 1
+changes_after d state (run.File client call) = omega arith
+changes_after d state (run.Process client call) = omega arith
+changes_after d state (run.Port client call) = omega arith
+changes_after d state (run.Begin client manager.File) = omega arith
+changes_after d state (run.Begin client manager.Process) = omega arith
+changes_after d state (run.Begin client manager.Port) = omega arith
+changes_after d state (run.End client manager.File) = omega arith
+changes_after d state (run.End client manager.Process) = omega arith
+changes_after d state (run.End client manager.Port) = omega arith
+changes_after d state (run.Notify version) = noticed_changes (refusal_of d state version)
   where
-    noticed_changes : (refusal : Option NotifyFault) → (day_notified day version refusal).changes ≤ day.changes + 1
+    noticed_changes : (refusal : Option NotifyFault) → (state_notified state version refusal).changes ≤ state.changes + 1
     noticed_changes None = omega arith
     noticed_changes (Some fault) = omega arith
-changes_after d day (run.Update most) = omega arith
-changes_after d day run.Ack = change_counted (is_complete (ack_all_of d day)) day.changes
-changes_after d day run.Force = change_counted (is_complete (force_all_of d day)) day.changes
+changes_after d state (run.Update most) = omega arith
+changes_after d state run.Ack = change_counted (is_complete (ack_all_of d state)) state.changes
+changes_after d state run.Force = change_counted (is_complete (force_all_of d state)) state.changes
 
 -- the managers have as many clients as before
-pub clients_after : (count : ℕ) (old new : Day) → HasClients count old → IsSameOpening old new → HasClients count new
+pub clients_after : (count : ℕ) (old new : SessionState) → HasClients count old → IsSameOpening old new → HasClients count new
 clients_after count old new has same = record {
   files = ap (λ o. length o.clients) same.files ∙ has.files;
   processes = ap (λ o. length o.clients) same.processes ∙ has.processes;
@@ -203,14 +203,14 @@ pub port_formed : (d : Decisions) (state : PortState) (clients client : ℕ) (sa
 port_formed d state clients client said same (below, ranges) = record { caller_is = omega arith; ranges = ranges }
 
 -- the managers of a session's openings have its clients
-opened_clients : (session : SessionParts) → HasClients (length session.clients) (morning session)
+opened_clients : (session : SessionParts) → HasClients (length session.clients) (first_state session)
 opened_clients session =
     let same : length (map (λ (client : ClientLine). client.sid) session.clients) ≡ length session.clients = length-map session.clients (λ (client : ClientLine). client.sid) in
     record { files = same; processes = same; ports = same }
 
--- the lines of a session may run from its morning on; they are fewer than a text has bytes
+-- the lines of a session may run from its opening on; they are fewer than a text has bytes
 pub session_may : (session : SessionParts) (d : Decisions) → IsSession session → length session.lines < 2 ^ 64 → ((sid : ℕ) → IsSidOf session.policy.contexts sid → IsTrue (d.known sid))
-    → MayRun d (length session.clients) (morning session) session.lines
+    → MayRun d (length session.clients) (first_state session) session.lines
 session_may session d is few known = record {
   formed = runs_known (IsSidOf session.policy.contexts) (λ sid. IsTrue (d.known sid)) (length session.clients) session.lines known (lines_run session is);
   clients_are = opened_clients session;
@@ -219,36 +219,36 @@ session_may session d is few known = record {
 }
 
 -- at first all lines are left
-pub all_left : (d : Decisions) (clients : ℕ) (day : Day) (lines : List RunLine) → MayRun d clients day lines → IsLeft d clients day day lines lines
-all_left d clients day lines may = record { may = may; leads = refl }
+pub all_left : (d : Decisions) (clients : ℕ) (state : SessionState) (lines : List RunLine) → MayRun d clients state lines → IsLeft d clients state state lines lines
+all_left d clients state lines may = record { may = may; leads = refl }
 
 -- one line ran, and the rest is left
-pub left_more : (d d' : Decisions) (clients : ℕ) (start day day' : Day) (all items rest : List RunLine) (line : RunLine) → IsLeft d clients start day all items → items ≡ line ∷ rest → d' ≡ d
-    → day' ≡ day_after d' day line.run → IsSameOpening day day' → IsLeft d clients start day' all rest
-left_more d d' clients start day day' all items rest line left is same day_is opening =
-    let after : day' ≡ day_after d day line.run = rw same at day_is in
+pub left_more : (d d' : Decisions) (clients : ℕ) (start state state' : SessionState) (all items rest : List RunLine) (line : RunLine) → IsLeft d clients start state all items → items ≡ line ∷ rest → d' ≡ d
+    → state' ≡ state_after d' state line.run → IsSameOpening state state' → IsLeft d clients start state' all rest
+left_more d d' clients start state state' all items rest line left is same state_is opening =
+    let after : state' ≡ state_after d state line.run = rw same at state_is in
     let count : length items ≡ length rest + 1 = ap length is ∙ omega arith in
     record {
       may = record {
         formed = all_behind (λ (line : RunLine). IsRun (λ sid. IsTrue (d.known sid)) clients line.run) items rest line is left.may.formed;
-        clients_are = clients_after clients day day' left.may.clients_are opening;
-        calls = omega (arith, left.may.calls, count, rw (← after) at (calls_after d day line.run));
-        changes = omega (arith, left.may.changes, count, rw (← after) at (changes_after d day line.run));
+        clients_are = clients_after clients state state' left.may.clients_are opening;
+        calls = omega (arith, left.may.calls, count, rw (← after) at (calls_after d state line.run));
+        changes = omega (arith, left.may.changes, count, rw (← after) at (changes_after d state line.run));
       };
       leads = rw after (rw is at left.leads);
     }
 
 -- no line is left
-pub none_left : (d : Decisions) (clients : ℕ) (start day : Day) (all items : List RunLine) → IsLeft d clients start day all items → length items ≡ 0 → day ≡ day_below d start all
-none_left d clients start day all items left none = rw (no_items items none) at left.leads
+pub none_left : (d : Decisions) (clients : ℕ) (start state : SessionState) (all items : List RunLine) → IsLeft d clients start state all items → length items ≡ 0 → state ≡ state_below d start all
+none_left d clients start state all items left none = rw (no_items items none) at left.leads
 
 -- all was offered, so all was added
 pub offered_all : (before now : Option (List ℕ)) (whole : List ℕ) → IsOffered before now whole [] → Adds before now whole
 offered_all before now whole offered = rw (offered.1 ∙ append-nil offered.0) offered.2
 
 -- the counts have room for one more
-pub room_for_one : (d : Decisions) (clients : ℕ) (day : Day) (items rest : List RunLine) (line : RunLine) → MayRun d clients day items → items ≡ line ∷ rest → (day.calls + 1 < 2 ^ 64) × (day.changes + 1 < 2 ^ 64)
-room_for_one d clients day items rest line may is =
+pub room_for_one : (d : Decisions) (clients : ℕ) (state : SessionState) (items rest : List RunLine) (line : RunLine) → MayRun d clients state items → items ≡ line ∷ rest → (state.calls + 1 < 2 ^ 64) × (state.changes + 1 < 2 ^ 64)
+room_for_one d clients state items rest line may is =
     let count : length items ≡ length rest + 1 = ap length is ∙ omega arith in
     (omega (arith, may.calls, count), omega (arith, may.changes, count))
 

@@ -10,18 +10,18 @@ use Rattle.audit_allow.specs.declared.grant.GrantKind.TheVariants.{Allow, Refuse
 use Rattle.audit_log.specs.Audited.{is_denial}
 use Rattle.grant_print.specs.Printed.{learned_text}
 use Rattle.policy_model.specs.declared.policy.PolicyParts.{PolicyParts}
-use Rattle.session_desk.specs.Days.{Day, version_on}
+use Rattle.session_managers.specs.SessionStates.{SessionState, version_on}
 use Rattle.session_forms.specs.declared.run_forms.Manager.{Manager}
 use Rattle.session_text.specs.declared.session.RunLine.{RunLine}
 use Rattle.session_text.specs.declared.session.SessionParts.{SessionParts}
-use Rattle.flaskd_run.specs.Serial.{morning, day_after, caller_of, asked_by}
+use Rattle.flaskd_run.specs.Serial.{first_state, state_after, caller_of, asked_by}
 use Rattle.flaskd_run.specs.declared.learning.Learnt.{Learnt}
 use Rattle.flaskd_run.specs.declared.lines.Caller.{Caller}
 
 -- the manager that a caller calls, where it acts under a version
-abbrev pub manager_under : ℕ → Day → Option Caller → Option Manager
-manager_under version day None = None
-manager_under version day (Some caller) = if version_on day caller.acting.client caller.manager == version then Some caller.manager else None
+abbrev pub manager_under : ℕ → SessionState → Option Caller → Option Manager
+manager_under version state None = None
+manager_under version state (Some caller) = if version_on state caller.acting.client caller.manager == version then Some caller.manager else None
 
 -- which of these questions were denied and have an audit line, where a manager was called under the version
 abbrev pub denials_at : PolicyParts → List (ContextOf (List ℕ)) → Option Manager → List Asked → List Asked
@@ -29,16 +29,16 @@ denials_at policy contexts None asked = []
 denials_at policy contexts (Some of) asked = filter (is_denial policy contexts) asked
 
 -- what lines were denied under a version, in the text's order, from there on
-abbrev pub lines_denials : ℕ → PolicyParts → List (ContextOf (List ℕ)) → Decisions → Day → List RunLine → List Asked
-lines_denials version policy contexts d day [] = []
-lines_denials version policy contexts d day (line ∷ lines) =
-    denials_at policy contexts (manager_under version day (caller_of day line.line line.run)) (asked_by d day line.run)
-    ++ lines_denials version policy contexts d (day_after d day line.run) lines
+abbrev pub lines_denials : ℕ → PolicyParts → List (ContextOf (List ℕ)) → Decisions → SessionState → List RunLine → List Asked
+lines_denials version policy contexts d state [] = []
+lines_denials version policy contexts d state (line ∷ lines) =
+    denials_at policy contexts (manager_under version state (caller_of state line.line line.run)) (asked_by d state line.run)
+    ++ lines_denials version policy contexts d (state_after d state line.run) lines
 
 -- what is learned from in a session: what its lines were denied under the version
 abbrev pub lesson_of : ℕ → List (ContextOf (List ℕ)) → Decisions → SessionParts → Lesson
 lesson_of version contexts d session =
-    record { policy = session.policy; contexts = contexts; asked = lines_denials version session.policy contexts d (morning session) session.lines }
+    record { policy = session.policy; contexts = contexts; asked = lines_denials version session.policy contexts d (first_state session) session.lines }
 
 -- what was learned from a session under a version, with its policy
 pub record IsLearnt (version : ℕ) (contexts : List (ContextOf (List ℕ))) (d : Decisions) (session : SessionParts) (learnt : Learnt) : Type 0 where

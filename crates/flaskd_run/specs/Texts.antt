@@ -19,9 +19,9 @@ use Rattle.change_protocol.specs.declared.answers.NotifyAllFault.{NotifyAllFault
 use Rattle.change_protocol.specs.declared.answers.NotifyAllFault.TheVariants as faults
 use Rattle.change_protocol.specs.declared.answers.Said.{Said}
 use Rattle.change_protocol.specs.declared.answers.Said.TheVariants as saying
-use Rattle.session_desk.specs.declared.acting.Reply.{Reply}
-use Rattle.session_desk.specs.declared.acting.Reply.TheVariants as any
-use Rattle.session_desk.specs.declared.changes.Acks.{Acks}
+use Rattle.session_managers.specs.declared.acting.Reply.{Reply}
+use Rattle.session_managers.specs.declared.acting.Reply.TheVariants as any
+use Rattle.session_managers.specs.declared.changes.Acks.{Acks}
 
 -- a permission with its class
 abbrev pub perm_text : Permission → List ℕ

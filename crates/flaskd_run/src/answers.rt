@@ -7,8 +7,8 @@ use crate::texts::{put_acks, put_admin, put_client, put_got, put_notice, put_upd
 use change_protocol::NotifyAllFault;
 use flask_sid::{Memory, Piece, SidTable};
 use manager_history::Answer;
-use session_desk::{Acks, Reply};
 use session_forms::Manager;
+use session_managers::{Acks, Reply};
 use session_text::ClientLine;
 
 /// What a line came to: a client's call got this reply under a policy number, or was aborted; a client holds a pass of that number

@@ -4,7 +4,7 @@ ghost use Rattle.std.specs.Prelude.{◌≡◌, ◌+◌, ◌<◌, ◌≤◌, ◌^
 ghost use Rattle.std.specs.List.{filter};
 ghost use Rattle.audit_log.specs.Audited.{is_denial};
 ghost use Rattle.policy_versions.specs.Compiling.{IsCatalogueOf, sids_of, decides_of};
-ghost use Rattle.session_desk.specs.Desks.{HasClients, IsSameOpening};
+ghost use Rattle.session_managers.specs.SessionViews.{HasClients, IsSameOpening};
 ghost use Rattle.session_text.specs.Sessions.{IsRun, IsSession};
 ghost use Rattle.flaskd_run.specs.Learning;
 ghost use Rattle.flaskd_run.specs.Lines.{IsRunnable};
@@ -21,8 +21,8 @@ use flask_sid::{Memory, Rows};
 use policy_model::PolicyText;
 use policy_versions::Catalogue;
 use run_output::Setting;
-use session_desk::Desk;
 use session_forms::Manager;
+use session_managers::SessionManagers;
 use session_text::{RunLine, SessionParts};
 use std::alloc::Global;
 use std::sync::Wait;
@@ -55,12 +55,16 @@ impl<'a> Learner<'a> {
 }
 
 /// The manager that a line's call is of, where its client acts under a version.
-fn manager_under<D: Decider>(desk: &Desk<'_, D>, line: &RunLine, version: u8) -> Option<Manager>
+fn manager_under<D: Decider>(
+    managed: &SessionManagers<'_, D>,
+    line: &RunLine,
+    version: u8,
+) -> Option<Manager>
     requires { IsRunnable line.now.run }
-    ensures { result ≡ Learning.manager_under version desk.now.day (Serial.caller_of desk.now.day line.now.line line.now.run) }
+    ensures { result ≡ Learning.manager_under version managed.now.state (Serial.caller_of managed.now.state line.now.line line.now.run) }
 {
-    let caller = caller_of(desk, line)?;
-    if desk.acting_version(caller.acting.client, caller.manager) != version {
+    let caller = caller_of(managed, line)?;
+    if managed.acting_version(caller.acting.client, caller.manager) != version {
         return None;
     }
     Some(caller.manager)
@@ -70,30 +74,30 @@ fn manager_under<D: Decider>(desk: &Desk<'_, D>, line: &RunLine, version: u8) ->
 fn learn_line<R: Wait, D: Decider>(
     rt: &R,
     alloc: Global,
-    desk: &mut Desk<'_, D>,
+    managed: &mut SessionManagers<'_, D>,
     learner: &mut Learner<'_>,
     line: RunLine,
 ) -> Result<(), Memory>
-    requires formed { IsRun (λ sid. IsTrue ((D.decides desk.old.decider).known sid)) (length learner.old.setting.clients.now) line.run }
+    requires formed { IsRun (λ sid. IsTrue ((D.decides managed.old.decider).known sid)) (length learner.old.setting.clients.now) line.run }
     requires few { length learner.old.setting.clients.now ≤ 62 }
-    requires clients { HasClients (length learner.old.setting.clients.now) desk.old.day }
-    requires whole { desk.old.whole ≡ true }
-    requires calls { desk.old.day.calls + 1 < 2 ^ 64 }
-    requires changes { desk.old.day.changes + 1 < 2 ^ 64 }
-    ensures day { OnOk result (desk.new.day ≡ Serial.day_after (D.decides desk.old.decider) desk.old.day line.run) }
+    requires clients { HasClients (length learner.old.setting.clients.now) managed.old.state }
+    requires whole { managed.old.whole ≡ true }
+    requires calls { managed.old.state.calls + 1 < 2 ^ 64 }
+    requires changes { managed.old.state.changes + 1 < 2 ^ 64 }
+    ensures state { OnOk result (managed.new.state ≡ Serial.state_after (D.decides managed.old.decider) managed.old.state line.run) }
     ensures denied { OnOk result (learner.new.denied ≡ learner.old.denied ++ Learning.denials_at learner.old.setting.policy.now learner.old.setting.contexts.now
-        (Learning.manager_under learner.old.version desk.old.day (Serial.caller_of desk.old.day line.line line.run)) (Serial.asked_by (D.decides desk.old.decider) desk.old.day line.run)) }
+        (Learning.manager_under learner.old.version managed.old.state (Serial.caller_of managed.old.state line.line line.run)) (Serial.asked_by (D.decides managed.old.decider) managed.old.state line.run)) }
     ensures setting { learner.new.setting ≡ learner.old.setting }
     ensures version { learner.new.version ≡ learner.old.version }
-    ensures opening { IsSameOpening desk.old.day desk.new.day }
-    ensures decider { desk.new.decider ≡ desk.old.decider }
-    ensures whole { OnOk result (desk.new.whole ≡ true) }
+    ensures opening { IsSameOpening managed.old.state managed.new.state }
+    ensures decider { managed.new.decider ≡ managed.old.decider }
+    ensures whole { OnOk result (managed.new.whole ≡ true) }
 {
-    let manager = manager_under(desk, &line, learner.version);
-    act_quietly(rt, alloc, desk, learner.setting.clients.len(), line)?;
+    let manager = manager_under(managed, &line, learner.version);
+    act_quietly(rt, alloc, managed, learner.setting.clients.len(), line)?;
     match manager {
         None => Ok(()),
-        Some(manager) => learner.keep(desk.asked(manager)),
+        Some(manager) => learner.keep(managed.asked(manager)),
     }
 }
 
@@ -101,19 +105,19 @@ fn learn_line<R: Wait, D: Decider>(
 fn learn_lines<R: Wait, D: Decider>(
     rt: &R,
     alloc: Global,
-    desk: &mut Desk<'_, D>,
+    managed: &mut SessionManagers<'_, D>,
     learner: Learner<'_>,
     lines: Vec<RunLine>,
 ) -> Result<Rows<Asked>, Memory>
-    requires may { MayRun (D.decides desk.old.decider) (length learner.setting.clients.now) desk.old.day lines.items }
-    requires whole { desk.old.whole ≡ true }
+    requires may { MayRun (D.decides managed.old.decider) (length learner.setting.clients.now) managed.old.state lines.items }
+    requires whole { managed.old.whole ≡ true }
     requires few { length learner.setting.clients.now ≤ 62 }
     ensures { IfOk result (λ denied. denied ≡ learner.entry.denied
-        ++ Learning.lines_denials learner.entry.version learner.entry.setting.policy.now learner.entry.setting.contexts.now (D.decides desk.old.decider) desk.old.day lines.items) }
+        ++ Learning.lines_denials learner.entry.version learner.entry.setting.policy.now learner.entry.setting.contexts.now (D.decides managed.old.decider) managed.old.state lines.items) }
 {
     let mut learner = learner;
     'lines: for line in lines {
-        learn_line(rt, alloc, desk, &mut learner, line)?;
+        learn_line(rt, alloc, managed, &mut learner, line)?;
     }
     Ok(learner.denied)
 }
@@ -153,8 +157,8 @@ pub fn learn<R: Wait>(
         version,
         denied: Rows::new(alloc),
     };
-    let mut desk = Desk::new(alloc, catalogue, openings)?;
-    let denied = learn_lines(rt, alloc, &mut desk, learner, lines.into_vec())?;
+    let mut managed = SessionManagers::new(alloc, catalogue, openings)?;
+    let denied = learn_lines(rt, alloc, &mut managed, learner, lines.into_vec())?;
     let learned = learned(alloc, &policy, catalogue.sids(), version, denied.as_slice())?;
     Ok(Learnt { policy, learned })
 }

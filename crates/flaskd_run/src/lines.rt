@@ -1,8 +1,8 @@
 //! What each line of a session does at the managers.
 
 ghost use Rattle.std.specs.Prelude.{◌≡◌, ◌+◌, ◌<◌, ◌≤◌, ◌^◌, true, IsTrue, IfOk, OnOk};
-ghost use Rattle.session_desk.specs.Desks;
-ghost use Rattle.session_desk.specs.Desks.{HasClients, IsSameOpening};
+ghost use Rattle.session_managers.specs.SessionViews;
+ghost use Rattle.session_managers.specs.SessionViews.{HasClients, IsSameOpening};
 ghost use Rattle.session_text.specs.Sessions.{IsRun};
 ghost use Rattle.flaskd_run.specs.Lines.{IsRunnable};
 ghost use Rattle.flaskd_run.specs.Serial;
@@ -12,8 +12,8 @@ use access_vectors::Decider;
 use audit_log::Acting;
 use change_protocol::NotifyAllFault;
 use flask_sid::Memory;
-use session_desk::{Call, Desk};
 use session_forms::Manager;
+use session_managers::{Call, SessionManagers};
 use session_text::{Run, RunLine};
 use std::alloc::Global;
 use std::sync::Wait;
@@ -26,9 +26,9 @@ pub struct Caller {
 }
 
 /// Who acts in a line, where it is a client's call.
-pub fn caller_of<D: Decider>(desk: &Desk<'_, D>, line: &RunLine) -> Option<Caller>
+pub fn caller_of<D: Decider>(managed: &SessionManagers<'_, D>, line: &RunLine) -> Option<Caller>
     requires { IsRunnable line.now.run }
-    ensures { result ≡ Serial.caller_of desk.now.day line.now.line line.now.run }
+    ensures { result ≡ Serial.caller_of managed.now.state line.now.line line.now.run }
 {
     let (client, manager) = match &line.run {
         Run::File { client, call: _ } => (*client, Manager::File),
@@ -39,7 +39,7 @@ pub fn caller_of<D: Decider>(desk: &Desk<'_, D>, line: &RunLine) -> Option<Calle
     let acting = Acting {
         client,
         mark: line.line,
-        number: desk.acting(client, manager),
+        number: managed.acting(client, manager),
     };
     Some(Caller { acting, manager })
 }
@@ -47,24 +47,24 @@ pub fn caller_of<D: Decider>(desk: &Desk<'_, D>, line: &RunLine) -> Option<Calle
 /// Does a client's call of one of the managers.
 fn call<D: Decider>(
     alloc: Global,
-    desk: &mut Desk<'_, D>,
+    managed: &mut SessionManagers<'_, D>,
     client: u8,
     mark: u32,
     call: Call,
 ) -> Result<LineAnswer, Memory>
-    requires formed { Serial.MayCall (D.decides desk.old.decider) desk.old.day client call }
+    requires formed { Serial.MayCall (D.decides managed.old.decider) managed.old.state client call }
     requires client { client < 64 }
-    requires countable { desk.old.day.calls + 1 < 2 ^ 64 }
-    ensures answer { IfOk result (λ answer. answer ≡ Serial.replied (D.decides desk.old.decider) desk.old.day client call) }
-    ensures day { OnOk result (desk.new.day ≡ Serial.day_called (D.decides desk.old.decider) desk.old.day client call) }
-    ensures asked { OnOk result (Desks.asked_of desk.new.asked (Serial.call_manager call)
-        ≡ (Serial.told_to (D.decides desk.old.decider) desk.old.day client call).asked) }
-    ensures opening { IsSameOpening desk.old.day desk.new.day }
-    ensures decider { desk.new.decider ≡ desk.old.decider }
-    ensures whole { desk.new.whole ≡ desk.old.whole }
+    requires countable { managed.old.state.calls + 1 < 2 ^ 64 }
+    ensures answer { IfOk result (λ answer. answer ≡ Serial.replied (D.decides managed.old.decider) managed.old.state client call) }
+    ensures state { OnOk result (managed.new.state ≡ Serial.state_called (D.decides managed.old.decider) managed.old.state client call) }
+    ensures asked { OnOk result (SessionViews.asked_of managed.new.asked (Serial.call_manager call)
+        ≡ (Serial.told_to (D.decides managed.old.decider) managed.old.state client call).asked) }
+    ensures opening { IsSameOpening managed.old.state managed.new.state }
+    ensures decider { managed.new.decider ≡ managed.old.decider }
+    ensures whole { managed.new.whole ≡ managed.old.whole }
 {
     let manager = call.manager();
-    let acted = desk.call(alloc, client, mark, call)?;
+    let acted = managed.call(alloc, client, mark, call)?;
     Ok(LineAnswer::Replied {
         client,
         manager,
@@ -77,31 +77,37 @@ fn call<D: Decider>(
 pub fn act<R: Wait, D: Decider>(
     rt: &R,
     alloc: Global,
-    desk: &mut Desk<'_, D>,
+    managed: &mut SessionManagers<'_, D>,
     clients: usize,
     line: RunLine,
 ) -> Result<LineAnswer, Memory>
-    requires formed { IsRun (λ sid. IsTrue ((D.decides desk.old.decider).known sid)) clients line.run }
+    requires formed { IsRun (λ sid. IsTrue ((D.decides managed.old.decider).known sid)) clients line.run }
     requires few { clients ≤ 62 }
-    requires clients { HasClients clients desk.old.day }
-    requires whole { desk.old.whole ≡ true }
-    requires calls { desk.old.day.calls + 1 < 2 ^ 64 }
-    requires changes { desk.old.day.changes + 1 < 2 ^ 64 }
-    ensures answer { IfOk result (λ answer. answer ≡ Serial.answer_on (D.decides desk.old.decider) desk.old.day line.run) }
-    ensures day { OnOk result (desk.new.day ≡ Serial.day_after (D.decides desk.old.decider) desk.old.day line.run) }
-    ensures asked { OnOk result (Serial.asked_in desk.new.asked line.run ≡ Serial.asked_by (D.decides desk.old.decider) desk.old.day line.run) }
-    ensures opening { IsSameOpening desk.old.day desk.new.day }
-    ensures decider { desk.new.decider ≡ desk.old.decider }
-    ensures whole { OnOk result (desk.new.whole ≡ true) }
+    requires clients { HasClients clients managed.old.state }
+    requires whole { managed.old.whole ≡ true }
+    requires calls { managed.old.state.calls + 1 < 2 ^ 64 }
+    requires changes { managed.old.state.changes + 1 < 2 ^ 64 }
+    ensures answer { IfOk result (λ answer. answer ≡ Serial.answer_on (D.decides managed.old.decider) managed.old.state line.run) }
+    ensures state { OnOk result (managed.new.state ≡ Serial.state_after (D.decides managed.old.decider) managed.old.state line.run) }
+    ensures asked { OnOk result (Serial.asked_in managed.new.asked line.run ≡ Serial.asked_by (D.decides managed.old.decider) managed.old.state line.run) }
+    ensures opening { IsSameOpening managed.old.state managed.new.state }
+    ensures decider { managed.new.decider ≡ managed.old.decider }
+    ensures whole { OnOk result (managed.new.whole ≡ true) }
 {
     let RunLine { line, run } = line;
     match run {
-        Run::File { client, call: asks } => call(alloc, desk, client, line, Call::File(asks)),
-        Run::Process { client, call: asks } => call(alloc, desk, client, line, Call::Process(asks)),
-        Run::Port { client, call: asks } => call(alloc, desk, client, line, Call::Port(asks)),
+        Run::File { client, call: asks } => call(alloc, managed, client, line, Call::File(asks)),
+        Run::Process { client, call: asks } => call(
+            alloc,
+            managed,
+            client,
+            line,
+            Call::Process(asks),
+        ),
+        Run::Port { client, call: asks } => call(alloc, managed, client, line, Call::Port(asks)),
         Run::Begin { client, manager } => {
-            let number = desk.acting(client, manager);
-            desk.begin(alloc, client, manager);
+            let number = managed.acting(client, manager);
+            managed.begin(alloc, client, manager);
             Ok(LineAnswer::Begun {
                 client,
                 manager,
@@ -109,8 +115,8 @@ pub fn act<R: Wait, D: Decider>(
             })
         }
         Run::End { client, manager } => {
-            let number = desk.acting(client, manager);
-            desk.end(alloc, client, manager);
+            let number = managed.acting(client, manager);
+            managed.end(alloc, client, manager);
             Ok(LineAnswer::Ended {
                 client,
                 manager,
@@ -118,14 +124,14 @@ pub fn act<R: Wait, D: Decider>(
             })
         }
         Run::Notify { ver } => {
-            let said = desk.notify(rt, alloc, ver);
+            let said = managed.notify(rt, alloc, ver);
             if let Err(NotifyAllFault::Memory { .. }) = &said {
                 return Err(Memory);
             }
             Ok(LineAnswer::Notified(said))
         }
-        Run::Update { k } => Ok(LineAnswer::Updated(desk.update(rt, k))),
-        Run::Ack => Ok(LineAnswer::Acknowledged(desk.acknowledge(rt))),
-        Run::Force => Ok(LineAnswer::Acknowledged(desk.force(rt))),
+        Run::Update { k } => Ok(LineAnswer::Updated(managed.update(rt, k))),
+        Run::Ack => Ok(LineAnswer::Acknowledged(managed.acknowledge(rt))),
+        Run::Force => Ok(LineAnswer::Acknowledged(managed.force(rt))),
     }
 }

@@ -2,8 +2,8 @@
 
 ghost use Rattle.std.specs.Prelude.{◌≡◌, ◌≤◌, ℕ, [], true, length, map, replicate, Err, IsTrue, IfOk, OnOk, OnErr};
 ghost use Rattle.flask_io.specs.Streams.{Adds, HasCause};
-ghost use Rattle.session_desk.specs.Days;
-ghost use Rattle.session_desk.specs.Desks.{AreOpenings};
+ghost use Rattle.session_managers.specs.SessionStates;
+ghost use Rattle.session_managers.specs.SessionViews.{AreOpenings};
 ghost use Rattle.session_text.specs.Sessions.{IsSession, IsSidOf};
 ghost use Rattle.session_text.specs.declared.session.ClientLine.{ClientLine};
 ghost use Rattle.flaskd_run.specs.Serial;
@@ -21,7 +21,7 @@ use flask_sid::{Memory, Piece, Rows, Sid, SidTable};
 use port_calls::{LabelledPort, PortOpening};
 use process_calls::ProcessOpening;
 use run_output::{RunStop, Setting, put_line, write_audit};
-use session_desk::{Desk, Openings};
+use session_managers::{Openings, SessionManagers};
 use session_text::{ClientLine, RunLine, SessionParts};
 use std::alloc::Global;
 use std::sync::Wait;
@@ -68,43 +68,43 @@ fn sids_of(alloc: Global, clients: &[ClientLine]) -> Result<Rows<Sid>, Memory>
 /// Writes the summary of a run that ended.
 fn write_summary<D: Decider, K: Sink>(
     alloc: Global,
-    desk: &Desk<'_, D>,
+    managed: &SessionManagers<'_, D>,
     sink: &mut K,
 ) -> Result<(), RunStop>
-    ensures ok { OnOk result (Adds (K.written sink.old) (K.written sink.new) (Serial.summary_of desk.now.day)) }
-    ensures err { OnErr result (AddsFront (K.written sink.old) (K.written sink.new) (Serial.summary_of desk.now.day)) }
+    ensures ok { OnOk result (Adds (K.written sink.old) (K.written sink.new) (Serial.summary_of managed.now.state)) }
+    ensures err { OnErr result (AddsFront (K.written sink.old) (K.written sink.new) (Serial.summary_of managed.now.state)) }
     ensures cause { HasCause (K.faults sink.old) (K.faults sink.new) (result ≡ Err RunStop.WriteFault) }
 {
     let mut out = Piece::new(alloc);
-    let (calls, denied, changes) = desk.counts();
+    let (calls, denied, changes) = managed.counts();
     put_summary(&mut out, calls, denied, changes)?;
     put_line(sink, &out)
 }
 
-/// Runs lines on a desk, and writes what they print: their answers, their audit lines, which the log keeps till then, and the
+/// Runs lines on managers, and writes what they print: their answers, their audit lines, which the log keeps till then, and the
 /// summary. Where it stops before, a front of the text was written.
 fn run_to_end<R: Wait, D: Decider, K: Sink>(
     rt: &R,
     alloc: Global,
-    desk: &mut Desk<'_, D>,
+    managed: &mut SessionManagers<'_, D>,
     setting: &Setting<'_>,
     lines: Vec<RunLine>,
     log: &mut AuditLog,
     sink: &mut K,
 ) -> Result<(), RunStop>
-    requires may { MayRun (D.decides desk.old.decider) (length setting.now.clients.now) desk.old.day lines.items }
-    requires whole { desk.old.whole ≡ true }
+    requires may { MayRun (D.decides managed.old.decider) (length setting.now.clients.now) managed.old.state lines.items }
+    requires whole { managed.old.whole ≡ true }
     requires few { length setting.now.clients.now ≤ 62 }
     requires log { log.old ≡ replicate (length setting.now.clients.now) [] }
     ensures ok { OnOk result (Adds (K.written sink.old) (K.written sink.new)
-        (Serial.run_text setting.now.audited setting.now.policy.now setting.now.contexts.now (D.decides desk.old.decider) setting.now.clients.now desk.old.day lines.items)) }
+        (Serial.run_text setting.now.audited setting.now.policy.now setting.now.contexts.now (D.decides managed.old.decider) setting.now.clients.now managed.old.state lines.items)) }
     ensures err { OnErr result (AddsFront (K.written sink.old) (K.written sink.new)
-        (Serial.run_text setting.now.audited setting.now.policy.now setting.now.contexts.now (D.decides desk.old.decider) setting.now.clients.now desk.old.day lines.items)) }
+        (Serial.run_text setting.now.audited setting.now.policy.now setting.now.contexts.now (D.decides managed.old.decider) setting.now.clients.now managed.old.state lines.items)) }
     ensures cause { HasCause (K.faults sink.old) (K.faults sink.new) (result ≡ Err RunStop.WriteFault) }
 {
-    run_lines(rt, alloc, desk, setting, lines, log, sink)?;
+    run_lines(rt, alloc, managed, setting, lines, log, sink)?;
     write_audit(alloc, setting.contexts, log, 0, setting.clients, sink)?;
-    write_summary(alloc, desk, sink)
+    write_summary(alloc, managed, sink)
 }
 
 /// Opens the managers, and runs lines on them.
@@ -120,16 +120,16 @@ fn run_opened<R: Wait, D: Decider, K: Sink>(
 ) -> Result<(), RunStop>
     requires openings { AreOpenings (D.decides decider.now) openings }
     requires few { length setting.now.clients.now ≤ 62 }
-    requires may { MayRun (D.decides decider.now) (length setting.now.clients.now) (Days.morning_of openings) lines.items }
+    requires may { MayRun (D.decides decider.now) (length setting.now.clients.now) (SessionStates.opening_state openings) lines.items }
     requires log { log.old ≡ replicate (length setting.now.clients.now) [] }
     ensures ok { OnOk result (Adds (K.written sink.old) (K.written sink.new)
-        (Serial.run_text setting.now.audited setting.now.policy.now setting.now.contexts.now (D.decides decider.now) setting.now.clients.now (Days.morning_of openings) lines.items)) }
+        (Serial.run_text setting.now.audited setting.now.policy.now setting.now.contexts.now (D.decides decider.now) setting.now.clients.now (SessionStates.opening_state openings) lines.items)) }
     ensures err { OnErr result (AddsFront (K.written sink.old) (K.written sink.new)
-        (Serial.run_text setting.now.audited setting.now.policy.now setting.now.contexts.now (D.decides decider.now) setting.now.clients.now (Days.morning_of openings) lines.items)) }
+        (Serial.run_text setting.now.audited setting.now.policy.now setting.now.contexts.now (D.decides decider.now) setting.now.clients.now (SessionStates.opening_state openings) lines.items)) }
     ensures cause { HasCause (K.faults sink.old) (K.faults sink.new) (result ≡ Err RunStop.WriteFault) }
 {
-    let mut desk = Desk::new(alloc, decider, openings)?;
-    run_to_end(rt, alloc, &mut desk, setting, lines, log, sink)
+    let mut managed = SessionManagers::new(alloc, decider, openings)?;
+    run_to_end(rt, alloc, &mut managed, setting, lines, log, sink)
 }
 
 /// Runs lines with a log for their audit lines.
@@ -144,11 +144,11 @@ fn run_logged<R: Wait, D: Decider, K: Sink>(
 ) -> Result<(), RunStop>
     requires openings { AreOpenings (D.decides decider.now) openings }
     requires few { length setting.now.clients.now ≤ 62 }
-    requires may { MayRun (D.decides decider.now) (length setting.now.clients.now) (Days.morning_of openings) lines.items }
+    requires may { MayRun (D.decides decider.now) (length setting.now.clients.now) (SessionStates.opening_state openings) lines.items }
     ensures ok { OnOk result (Adds (K.written sink.old) (K.written sink.new)
-        (Serial.run_text setting.now.audited setting.now.policy.now setting.now.contexts.now (D.decides decider.now) setting.now.clients.now (Days.morning_of openings) lines.items)) }
+        (Serial.run_text setting.now.audited setting.now.policy.now setting.now.contexts.now (D.decides decider.now) setting.now.clients.now (SessionStates.opening_state openings) lines.items)) }
     ensures err { OnErr result (AddsFront (K.written sink.old) (K.written sink.new)
-        (Serial.run_text setting.now.audited setting.now.policy.now setting.now.contexts.now (D.decides decider.now) setting.now.clients.now (Days.morning_of openings) lines.items)) }
+        (Serial.run_text setting.now.audited setting.now.policy.now setting.now.contexts.now (D.decides decider.now) setting.now.clients.now (SessionStates.opening_state openings) lines.items)) }
     ensures cause { HasCause (K.faults sink.old) (K.faults sink.new) (result ≡ Err RunStop.WriteFault) }
 {
     let mut log = AuditLog::new(alloc, setting.clients.len() as u8)?;
@@ -201,26 +201,26 @@ pub fn serial<R: Wait, D: Decider, K: Sink>(
     )
 }
 
-/// Runs lines on a desk, and writes the summary alone. Where it stops before, a front of the summary was written.
+/// Runs lines on managers, and writes the summary alone. Where it stops before, a front of the summary was written.
 fn sum_to_end<R: Wait, D: Decider, K: Sink>(
     rt: &R,
     alloc: Global,
-    desk: &mut Desk<'_, D>,
+    managed: &mut SessionManagers<'_, D>,
     clients: usize,
     lines: Vec<RunLine>,
     sink: &mut K,
 ) -> Result<(), RunStop>
-    requires may { MayRun (D.decides desk.old.decider) clients desk.old.day lines.items }
-    requires whole { desk.old.whole ≡ true }
+    requires may { MayRun (D.decides managed.old.decider) clients managed.old.state lines.items }
+    requires whole { managed.old.whole ≡ true }
     requires few { clients ≤ 62 }
     ensures ok { OnOk result (Adds (K.written sink.old) (K.written sink.new)
-        (Serial.summary_of (Serial.day_below (D.decides desk.old.decider) desk.old.day lines.items))) }
+        (Serial.summary_of (Serial.state_below (D.decides managed.old.decider) managed.old.state lines.items))) }
     ensures err { OnErr result (AddsFront (K.written sink.old) (K.written sink.new)
-        (Serial.summary_of (Serial.day_below (D.decides desk.old.decider) desk.old.day lines.items))) }
+        (Serial.summary_of (Serial.state_below (D.decides managed.old.decider) managed.old.state lines.items))) }
     ensures cause { HasCause (K.faults sink.old) (K.faults sink.new) (result ≡ Err RunStop.WriteFault) }
 {
-    run_quietly(rt, alloc, desk, clients, lines)?;
-    write_summary(alloc, desk, sink)
+    run_quietly(rt, alloc, managed, clients, lines)?;
+    write_summary(alloc, managed, sink)
 }
 
 /// Opens the managers, runs lines on them, and writes the summary alone.
@@ -235,15 +235,15 @@ fn sum_opened<R: Wait, D: Decider, K: Sink>(
 ) -> Result<(), RunStop>
     requires openings { AreOpenings (D.decides decider.now) openings }
     requires few { clients ≤ 62 }
-    requires may { MayRun (D.decides decider.now) clients (Days.morning_of openings) lines.items }
+    requires may { MayRun (D.decides decider.now) clients (SessionStates.opening_state openings) lines.items }
     ensures ok { OnOk result (Adds (K.written sink.old) (K.written sink.new)
-        (Serial.summary_of (Serial.day_below (D.decides decider.now) (Days.morning_of openings) lines.items))) }
+        (Serial.summary_of (Serial.state_below (D.decides decider.now) (SessionStates.opening_state openings) lines.items))) }
     ensures err { OnErr result (AddsFront (K.written sink.old) (K.written sink.new)
-        (Serial.summary_of (Serial.day_below (D.decides decider.now) (Days.morning_of openings) lines.items))) }
+        (Serial.summary_of (Serial.state_below (D.decides decider.now) (SessionStates.opening_state openings) lines.items))) }
     ensures cause { HasCause (K.faults sink.old) (K.faults sink.new) (result ≡ Err RunStop.WriteFault) }
 {
-    let mut desk = Desk::new(alloc, decider, openings)?;
-    sum_to_end(rt, alloc, &mut desk, clients, lines, sink)
+    let mut managed = SessionManagers::new(alloc, decider, openings)?;
+    sum_to_end(rt, alloc, &mut managed, clients, lines, sink)
 }
 
 /// Runs a session on a decider, and writes its summary alone.

@@ -11,8 +11,8 @@ use flask_sid::{Context, Memory, Piece, Sid, SidTable};
 use manager_history::Answer;
 use port_calls::PortReply;
 use process_calls::ProcessReply;
-use session_desk::{Acks, Reply};
 use session_forms::Manager;
+use session_managers::{Acks, Reply};
 use text_lines::put_number;
 
 /// Puts what a call got. The labels of a reply are identifiers of these contexts.
@@ -138,7 +138,7 @@ fn put_stat(out: &mut Piece, contexts: &SidTable, sid: Sid, number: u64) -> Resu
 {
     out.extend(b"stat ")?;
     put_label(out, contexts, sid)?;
-    out.extend(b" ")?;
+    out.push(b' ')?;
     put_number(out, number)
 }
 
@@ -156,9 +156,9 @@ fn put_context(out: &mut Piece, context: &Context) -> Result<(), Memory>
     ensures { OnOk result (out.new ≡ out.old ++ Texts.context_text context.now) }
 {
     out.extend(context.user.as_bytes())?;
-    out.extend(b":")?;
+    out.push(b':')?;
     out.extend(context.role.as_bytes())?;
-    out.extend(b":")?;
+    out.push(b':')?;
     out.extend(context.kind.as_bytes())
 }
 
@@ -170,7 +170,7 @@ fn put_data(out: &mut Piece, bytes: &[u8]) -> Result<(), Memory>
         [_first, ..] => {
             out.extend(b"data ")?;
             put_number(out, bytes.len() as u64)?;
-            out.extend(b" ")?;
+            out.push(b' ')?;
             out.extend(bytes)
         }
     }
@@ -203,22 +203,21 @@ pub fn put_client(
     ensures { OnOk result (out.new ≡ out.old ++ Texts.client_front line name.now manager number) }
 {
     put_number(out, u64::from(line))?;
-    out.extend(b" ")?;
+    out.push(b' ')?;
     out.extend(name)?;
-    out.extend(b" ")?;
-    out.extend(manager_word(manager))?;
-    out.extend(b" ")?;
+    out.extend(manager_between(manager))?;
     put_number(out, u64::from(number))?;
-    out.extend(b" ")
+    out.push(b' ')
 }
 
-fn manager_word(manager: Manager) -> &'static [u8]
-    ensures { result.now ≡ Texts.manager_word manager }
+// The word of a manager between spaces, so that a line takes one piece for the three.
+fn manager_between(manager: Manager) -> &'static [u8]
+    ensures { result.now ≡ codes " " ++ Texts.manager_word manager ++ codes " " }
 {
     match manager {
-        Manager::File => b"file",
-        Manager::Process => b"process",
-        Manager::Port => b"port",
+        Manager::File => b" file ",
+        Manager::Process => b" process ",
+        Manager::Port => b" port ",
     }
 }
 

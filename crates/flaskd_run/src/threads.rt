@@ -3,7 +3,7 @@
 ghost use Rattle.std.specs.Prelude.{◌≡◌, ◌≤◌, ℕ, length, Err, IsTrue, IfOk, OnOk, OnErr};
 ghost use Rattle.flask_io.specs.Streams.{Adds, HasCause};
 ghost use Rattle.access_vectors.specs.Decisions.{Decisions};
-ghost use Rattle.session_desk.specs.Desks.{AreOpenings};
+ghost use Rattle.session_managers.specs.SessionViews.{AreOpenings};
 ghost use Rattle.session_text.specs.Sessions.{IsSession, IsSidOf};
 ghost use Rattle.session_text.specs.declared.session.SessionParts.{SessionParts};
 ghost use Rattle.run_output.specs.Writing.{AddsFront};

@@ -11,7 +11,7 @@ use Rattle.flask_sid.specs.declared.context.ContextOf.{ContextOf}
 use Rattle.policy_model.specs.declared.policy.PolicyParts.{PolicyParts}
 use Rattle.flask_sid.specs.Names.{is_name_form, is_kind_form}
 use Rattle.policy_model.specs.declared.policy.KindLine.{KindLine}
-use Rattle.policy_model.specs.Kept.{Kept, MayKind, is_kind_name}
+use Rattle.policy_model.specs.Kept.{IsWholePolicy, MayKind, is_kind_name}
 use Rattle.policy_versions.specs.Places.{kind_at}
 use Rattle.policy_versions.specs.Sets.{has_place}
 use Rattle.policy_versions.proofs.GrowsLemmas.{grows_at}
@@ -31,7 +31,7 @@ unfolding is_node
 node_declared policy contexts place is = grind (arith, nat_tests, is)
 
 -- and there are few of them
-pub node_small : (policy : PolicyParts) (contexts : List (ContextOf (List ℕ))) (place : ℕ) → Kept policy → is_node policy contexts place ≡ true → place < 128
+pub node_small : (policy : PolicyParts) (contexts : List (ContextOf (List ℕ))) (place : ℕ) → IsWholePolicy policy → is_node policy contexts place ≡ true → place < 128
 node_small policy contexts place kept is =
     let declared = node_declared policy contexts place is in
     let few = kinds_few policy kept in
@@ -151,7 +151,7 @@ unfolding hop_between
 labelled query from to hop is = found_labelled from to (find (is_open query.policy query.version from to) (routes query.kind)) hop is
 
 -- a name that is declared is not empty
-unnamed : (policy : PolicyParts) (place : ℕ) → Kept policy → place < length policy.kinds → kind_at policy place ≡ [] → ⊥
+unnamed : (policy : PolicyParts) (place : ℕ) → IsWholePolicy policy → place < length policy.kinds → kind_at policy place ≡ [] → ⊥
 unfolding is_kind_name is_kind_form is_name_form
 unnamed policy place kept within empty =
     let may : MayKind (take place policy.kinds) (get_or policy.kinds place no_kind) = grows_at MayKind [] policy.kinds kept.grown.kinds place no_kind within in
@@ -160,7 +160,7 @@ unnamed policy place kept within empty =
     absurd cc
 
 -- a declared type has the name of no other place
-one_place : (policy : PolicyParts) (kind place : ℕ) → Kept policy → place < length policy.kinds → kind_at policy kind ≡ kind_at policy place → place ≡ kind
+one_place : (policy : PolicyParts) (kind place : ℕ) → IsWholePolicy policy → place < length policy.kinds → kind_at policy kind ≡ kind_at policy place → place ≡ kind
 one_place policy kind place kept within same =
     ⊎_elim
     (λ low. kinds_apart policy kept place kind within low (sym same))
@@ -194,7 +194,7 @@ or_false true = refl
 or_false false = refl
 
 -- the mark of a type is put: it is that of each declared type of this name
-put_mark : (policy : PolicyParts) (marks name : List ℕ) (kind place : ℕ) → Kept policy → place < length policy.kinds → kind < length marks → kind_at policy kind ≡ name
+put_mark : (policy : PolicyParts) (marks name : List ℕ) (kind place : ℕ) → IsWholePolicy policy → place < length policy.kinds → kind < length marks → kind_at policy kind ≡ name
     → has_place (set marks kind 65535) place ≡ (has_place marks place || bytes_eq name (kind_at policy place))
 put_mark policy marks name kind place kept declared marked named =
     ⊎_elim
@@ -209,7 +209,7 @@ put_mark policy marks name kind place kept declared marked named =
     (cases_eq place kind)
 
 -- the type of one context more
-pub marks_more : (policy : PolicyParts) (contexts : List (ContextOf (List ℕ))) (marks : List ℕ) (i kind : ℕ) (d : ContextOf (List ℕ)) → Kept policy → i < length contexts
+pub marks_more : (policy : PolicyParts) (contexts : List (ContextOf (List ℕ))) (marks : List ℕ) (i kind : ℕ) (d : ContextOf (List ℕ)) → IsWholePolicy policy → i < length contexts
     → kind_at policy kind ≡ (get_or contexts i d).kind → kind < length marks → MarksBelow policy contexts i marks → MarksBelow policy contexts (i + 1) (set marks kind 65535)
 marks_more policy contexts marks i kind d kept within named marked below place declared =
     let name = kind_at policy place in

@@ -10,7 +10,7 @@ use Rattle.gate_rule.specs.History.{MayCome, Alternates, StartsWith, settled_in,
 use Rattle.gate_rule.specs.History.Kind.{Call}
 use Rattle.gate_rule.specs.Views.{caller_of, leave_word, one_more, done, traced, entry_added}
 use Rattle.gate_rule.proofs.Histories.{alternates_more, phase_settled, phase_pending, nothing_added, one_added}
-use Rattle.epoch_gate.specs.Seats.{Shown}
+use Rattle.epoch_gate.specs.Seats.{SeatView}
 use Rattle.gate_rule.specs.Tickets.{word_of}
 use Rattle.epoch_gate.specs.Known.{IsCallerOf, seen_by, pass_held, found_last, turns_had}
 use Rattle.epoch_gate.specs.Calls.{HasWaited, ExtendsAsCaller}
@@ -31,9 +31,9 @@ load_is : (e l : StepDone) (word word' : ℕ) → e ≡ l → l ≡ done word l.
 load_is e l word word' same is at = same ∙ (is ∙ (λ i. done (at i) ((sym same i).found) ((sym same i).found)))
 
 -- the one turn of a call
-pub had_turn : {D O : Type 0} (s w t : Shown Line D O) (log : List Line) (l : ℕ) → HasWaited s w → t.view.trace ≡ traced w.view.trace (done 4 (found_last t) (one_more (found_last t))) → turns_had w ≡ turns_had s → turns_had t ≡ turns_had w ++ (record { entry = entry_added w.view.seen log; looked = w.view.desk.looked; found = w.view.desk.found; left = l }) ∷ [] → HasTurnAlone s t
+pub had_turn : {D O : Type 0} (s w t : SeatView Line D O) (log : List Line) (l : ℕ) → HasWaited s w → t.view.trace ≡ traced w.view.trace (done 4 (found_last t) (one_more (found_last t))) → turns_had w ≡ turns_had s → turns_had t ≡ turns_had w ++ (record { entry = entry_added w.view.seen log; looked = w.view.admin_view.looked; found = w.view.admin_view.found; left = l }) ∷ [] → HasTurnAlone s t
 had_turn s w t log l waited gave same more =
-    let item : Item Line = record { entry = entry_added w.view.seen log; looked = w.view.desk.looked; found = w.view.desk.found; left = l } in
+    let item : Item Line = record { entry = entry_added w.view.seen log; looked = w.view.admin_view.looked; found = w.view.admin_view.found; left = l } in
     let last = ap (λ (x : Trace). x.last) gave in (
       record { ticket = word_of w.view.ticket; taken = w.view.trace; waited = waited; item = item; once = more ∙ ap (λ (l : List (Item Line)). l ++ item ∷ []) same; passed = last },
       gave ∙ ap (traced w.view.trace) (sym last),
@@ -41,15 +41,15 @@ had_turn s w t log l waited gave same more =
 
 module _ {E D O : Type 0} where
   -- what the load of the older passes showed, said of the seat before the turn and of the one after it
-  pub load_shown : (a u w b : View E D O) (older : ℕ) → b.trace.earlier ≡ w.trace.last → w.trace.last ≡ done (leave_word (u.desk.newest + 1)) w.trace.last.found w.trace.last.found → older + w.trace.last.found ≡ u.desk.counted
-      → u.desk.newest ≡ a.desk.newest → u.desk.counted ≡ a.desk.counted → (b.trace.earlier ≡ done (leave_word (a.desk.newest + 1)) b.trace.earlier.found b.trace.earlier.found) × (older + b.trace.earlier.found ≡ a.desk.counted)
+  pub load_shown : (a u w b : View E D O) (older : ℕ) → b.trace.earlier ≡ w.trace.last → w.trace.last ≡ done (leave_word (u.admin_view.newest + 1)) w.trace.last.found w.trace.last.found → older + w.trace.last.found ≡ u.admin_view.counted
+      → u.admin_view.newest ≡ a.admin_view.newest → u.admin_view.counted ≡ a.admin_view.counted → (b.trace.earlier ≡ done (leave_word (a.admin_view.newest + 1)) b.trace.earlier.found b.trace.earlier.found) × (older + b.trace.earlier.found ≡ a.admin_view.counted)
   load_shown a u w b older same is sum newest counted =
       (load_is b.trace.earlier w.trace.last _ _ same is (ap (λ (x : ℕ). leave_word (x + 1)) newest), ap (λ (d : StepDone). older + d.found) same ∙ (sum ∙ counted))
 
   -- the item of a turn, with its parts as they are known
-  pub turn_done : (w u : View E D O) (log : List E) (l : ℕ) → u.desk.turns ≡ w.desk.turns ++ (record { entry = entry_added w.seen log; looked = w.desk.looked; found = w.desk.found; left = l }) ∷ []
-      → (turns : List (Item E)) (entry : Option E) (looked : Option ℕ) (found : ℕ) → w.desk.turns ≡ turns → entry_added w.seen log ≡ entry → w.desk.looked ≡ looked → w.desk.found ≡ found
-      → u.desk.turns ≡ turns ++ (record { entry = entry; looked = looked; found = found; left = l }) ∷ []
+  pub turn_done : (w u : View E D O) (log : List E) (l : ℕ) → u.admin_view.turns ≡ w.admin_view.turns ++ (record { entry = entry_added w.seen log; looked = w.admin_view.looked; found = w.admin_view.found; left = l }) ∷ []
+      → (turns : List (Item E)) (entry : Option E) (looked : Option ℕ) (found : ℕ) → w.admin_view.turns ≡ turns → entry_added w.seen log ≡ entry → w.admin_view.looked ≡ looked → w.admin_view.found ≡ found
+      → u.admin_view.turns ≡ turns ++ (record { entry = entry; looked = looked; found = found; left = l }) ∷ []
   turn_done w u log l is turns entry looked found a b c d = is ∙ (λ i. a i ++ (record { entry = b i; looked = c i; found = d i; left = l }) ∷ [])
 
   pub none_added : (w : View E D O) (items log : List E) → w.seen ≡ items → log ≡ items → entry_added w.seen log ≡ None
@@ -67,7 +67,7 @@ pub grown : (versions : ℕ) (log log' : List Line) (e : Line) → Alternates ki
 grown versions log log' e h more may = subst (Alternates kind_of versions 0 0) (sym more) (alternates_more kind_of versions log e h may)
 
 -- a caller's call, behind what it has seen with the turn
-pub calls : {D O : Type 0} (s : Shown Line D O) (items log : List Line) (e : Line) (n mark number version : ℕ) → log ≡ items ++ e ∷ [] → seen_by s ≡ items → IsCallerOf n s → pass_held s ≡ Inside number version → kind_of e ≡ Call n mark number → ExtendsAsCaller kind_of s log
+pub calls : {D O : Type 0} (s : SeatView Line D O) (items log : List Line) (e : Line) (n mark number version : ℕ) → log ≡ items ++ e ∷ [] → seen_by s ≡ items → IsCallerOf n s → pass_held s ≡ Inside number version → kind_of e ≡ Call n mark number → ExtendsAsCaller kind_of s log
 calls s items log e n mark number version more seen role pass is =
     inr (e, more ∙ ap (λ (l : List Line). l ++ e ∷ []) (sym seen), (mark, number, version, pass, is ∙ ap (λ (c : ℕ). Call c mark number) (sym (ap caller_of role))))
 

@@ -23,7 +23,7 @@ use Rattle.gate_rule.specs.Meaning.{Means}
 use Rattle.gate_rule.specs.Tickets.{Tickets, has_turn}
 use Rattle.gate_rule.specs.Passes.{Passes}
 use Rattle.gate_rule.specs.Views.{IsLive, is_caller, one_more, gave, mine_in, item_of, entries_of, entry_added}
-use Rattle.gate_rule.specs.Rule.{Kept, Truth, Fits, FitsRole, FitsEnded, IsOf, HasOf, IsTurn, role_of, ticket_of, rights_of, fixed_of}
+use Rattle.gate_rule.specs.Rule.{RuleHolds, Truth, Fits, FitsRole, FitsEnded, IsOf, HasOf, IsTurn, role_of, ticket_of, rights_of, fixed_of}
 use Rattle.gate_rule.specs.Told.{IsOwn, Extends}
 use Rattle.gate_rule.specs.Told as told
 use Rattle.gate_rule.proofs.Places.{each_set, each_more, map_kept, map_moved, word_else, word_here, same_place}
@@ -49,7 +49,7 @@ module _ {V E D O : Type 0} (M : Means V E D O) (decides : D → Decisions) (k :
     pub told : (m : ℕ) → m < t.newest → version_of M.kind m log ≡ version_of M.kind m t.log
     pub others : (n : ℕ) → IsOther role n → of_caller M.kind n log ≡ of_caller M.kind n t.log
 
-  module _ (s : State (Option V) (View E D O)) (r : Kept M decides k s) (id : ℕ) (v : View E D O) (at : get_elem? s.views id ≡ some v) (w : ℕ) (turn : v.ticket ≡ Served w) where
+  module _ (s : State (Option V) (View E D O)) (r : RuleHolds M decides k s) (id : ℕ) (v : View E D O) (at : get_elem? s.views id ≡ some v) (w : ℕ) (turn : v.ticket ≡ Served w) where
     -- another seat's number is another number
     other_number : (role : Role) → FitsRole M (fixed_of M k) r.t id v role → (n j : ℕ) → j ≢ id → r.t.holder n ≡ j → IsOther role n
     other_number Spent h n j ne own = tt
@@ -68,9 +68,9 @@ module _ {V E D O : Type 0} (M : Means V E D O) (decides : D → Decisions) (k :
 
     -- the turn is passed on, with a history that grew so
     passed_on : (y : V) → Grown r.t v.role (M.history y) → IsLive v.role
-        → ((role : Role) → v.role ≡ role → (role ≡ Admin → controls M.kind (M.history y) ≡ entries_of (v.desk.turns ++ item_of M v y ∷ [])) × ((role ≡ Admin → ⊥) → controls M.kind (M.history y) ≡ controls M.kind r.t.log))
+        → ((role : Role) → v.role ≡ role → (role ≡ Admin → controls M.kind (M.history y) ≡ entries_of (v.admin_view.turns ++ item_of M v y ∷ [])) × ((role ≡ Admin → ⊥) → controls M.kind (M.history y) ≡ controls M.kind r.t.log))
         → IsOf M (fixed_of M k) y
-        → Kept M decides k (record { words = set s.words 4 (one_more (get_or s.words 4 0)); homes = some (Some y) ∷ []; views = set s.views id (gave M y v (get_or s.words 4 0)) })
+        → RuleHolds M decides k (record { words = set s.words 4 (one_more (get_or s.words 4 0)); homes = some (Some y) ∷ []; views = set s.views id (gave M y v (get_or s.words 4 0)) })
     passed_on y grown alive control is_of =
         let g = get_or s.words 4 0 in
         let ws = set s.words 4 (one_more g) in
@@ -141,7 +141,7 @@ module _ {V E D O : Type 0} (M : Means V E D O) (decides : D → Decisions) (k :
         own (Caller n) e h = (h.0, h.1, h.2, ap (λ (x : Role). mine_in M x v.mine (M.history y)) e, h.4)
         own Admin e h =
             let c = (control Admin e).0 refl in
-            record { first = h.first; made = h.made; retired = h.retired; ended = λ i x there. ended x (h.ended i x there); newest = h.newest; version = h.version; counted = h.counted; clear = h.clear; controls_are = c; known = c; fixed = h.fixed; outside = h.outside; turns = each_more (λ i (turn : Item E). IsTurn M (fixed_of M k) turn) v.desk.turns (item_of M v y) (is_turn (has_seen M decides k s r id v w at turn).2) h.turns; once = h.once }
+            record { first = h.first; made = h.made; retired = h.retired; ended = λ i x there. ended x (h.ended i x there); newest = h.newest; version = h.version; counted = h.counted; clear = h.clear; controls_are = c; known = c; fixed = h.fixed; outside = h.outside; turns = each_more (λ i (turn : Item E). IsTurn M (fixed_of M k) turn) v.admin_view.turns (item_of M v y) (is_turn (has_seen M decides k s r id v w at turn).2) h.turns; once = h.once }
 
         not_admin : (j : ℕ) → j ≢ id → (u : View E D O) → FitsRole M (fixed_of M k) r.t j u Admin → v.role ≡ Admin → ⊥
         not_admin j other u h e = other (h.first ∙ sym (subst (FitsRole M (fixed_of M k) r.t id v) e (r.each id v at).role).first)
@@ -192,7 +192,7 @@ module _ {V E D O : Type 0} (M : Means V E D O) (decides : D → Decisions) (k :
       others = λ x o. ap (of_caller M.kind x) more ∙ of_caller_other M.kind x r.t.log e (nobody x);
     }
 
-    own_control : (log : List E) (e : E) → log ≡ r.t.log ++ e ∷ [] → last_notice M.kind log ≡ (r.t.newest, r.t.version r.t.newest) → v.desk.newest ≡ r.t.newest → v.desk.version ≡ r.t.version r.t.newest → v.desk.clear ≡ r.t.clear
+    own_control : (log : List E) (e : E) → log ≡ r.t.log ++ e ∷ [] → last_notice M.kind log ≡ (r.t.newest, r.t.version r.t.newest) → v.admin_view.newest ≡ r.t.newest → v.admin_view.version ≡ r.t.version r.t.newest → v.admin_view.clear ≡ r.t.clear
         → IsOwn M.kind v Admin e → Grown r.t Admin log × (is_control (M.kind e) ≡ true)
     own_control log e more last newest version clear own = ⊎_elim notice (⊎_elim forced plain) own
       where
@@ -202,38 +202,38 @@ module _ {V E D O : Type 0} (M : Means V E D O) (decides : D → Decisions) (k :
         forced_at : (K : Kind) → M.kind e ≡ K → forced_in M.kind log ≡ forced_to (forced_in M.kind r.t.log) K
         forced_at K is = ap (forced_in M.kind) more ∙ (forced_more M.kind r.t.log e ∙ ap (forced_to (forced_in M.kind r.t.log)) is)
 
-        notice : M.kind e ≡ Notice v.desk.newest v.desk.version → Grown r.t Admin log × (is_control (M.kind e) ≡ true)
+        notice : M.kind e ≡ Notice v.admin_view.newest v.admin_view.version → Grown r.t Admin log × (is_control (M.kind e) ≡ true)
         notice is = (
-          grown_control log e more (λ x. ap (is_by x) is) last (inl (settled_at (Notice v.desk.newest v.desk.version) is ∙ r.acknowledged.0, forced_at (Notice v.desk.newest v.desk.version) is ∙ r.acknowledged.1))
-              (λ m lt. ap (dated m (version_of M.kind m r.t.log)) is ∙ ap (λ (b : Bool). cond b v.desk.version (version_of M.kind m r.t.log)) (ne_eqb v.desk.newest m (λ z. omega arith))),
+          grown_control log e more (λ x. ap (is_by x) is) last (inl (settled_at (Notice v.admin_view.newest v.admin_view.version) is ∙ r.acknowledged.0, forced_at (Notice v.admin_view.newest v.admin_view.version) is ∙ r.acknowledged.1))
+              (λ m lt. ap (dated m (version_of M.kind m r.t.log)) is ∙ ap (λ (b : Bool). cond b v.admin_view.version (version_of M.kind m r.t.log)) (ne_eqb v.admin_view.newest m (λ z. omega arith))),
           ap is_control is,
         )
 
-        forced : M.kind e ≡ Ack v.desk.newest true → Grown r.t Admin log × (is_control (M.kind e) ≡ true)
+        forced : M.kind e ≡ Ack v.admin_view.newest true → Grown r.t Admin log × (is_control (M.kind e) ≡ true)
         forced is = (
           grown_control log e more (λ x. ap (is_by x) is) last
-              (inr (settled_at (Ack v.desk.newest true) is ∙ newest, inr (let f = forced_at (Ack v.desk.newest true) is in let a = r.acknowledged.1 in let b = r.passes.forced_is in let c = r.passes.between in omega arith)))
+              (inr (settled_at (Ack v.admin_view.newest true) is ∙ newest, inr (let f = forced_at (Ack v.admin_view.newest true) is in let a = r.acknowledged.1 in let b = r.passes.forced_is in let c = r.passes.between in omega arith)))
               (λ m lt. ap (dated m (version_of M.kind m r.t.log)) is),
           ap is_control is,
         )
 
-        plain : (M.kind e ≡ Ack v.desk.newest false) × (v.desk.clear ≡ v.desk.newest) → Grown r.t Admin log × (is_control (M.kind e) ≡ true)
+        plain : (M.kind e ≡ Ack v.admin_view.newest false) × (v.admin_view.clear ≡ v.admin_view.newest) → Grown r.t Admin log × (is_control (M.kind e) ≡ true)
         plain p = (
           grown_control log e more (λ x. ap (is_by x) p.0) last
-              (inr (settled_at (Ack v.desk.newest false) p.0 ∙ newest, inl (forced_at (Ack v.desk.newest false) p.0 ∙ r.acknowledged.1, sym clear ∙ (p.1 ∙ newest))))
+              (inr (settled_at (Ack v.admin_view.newest false) p.0 ∙ newest, inl (forced_at (Ack v.admin_view.newest false) p.0 ∙ r.acknowledged.1, sym clear ∙ (p.1 ∙ newest))))
               (λ m lt. ap (dated m (version_of M.kind m r.t.log)) p.0),
           ap is_control p.0,
         )
 
     -- the rule after the turn is passed on
     given : (y : V) → Extends M.kind v (M.history y) → IsLive v.role → IsOf M (fixed_of M k) y
-        → Kept M decides k (record { words = set s.words 4 (one_more (get_or s.words 4 0)); homes = some (Some y) ∷ []; views = set s.views id (gave M y v (get_or s.words 4 0)) })
+        → RuleHolds M decides k (record { words = set s.words 4 (one_more (get_or s.words 4 0)); homes = some (Some y) ∷ []; views = set s.views id (gave M y v (get_or s.words 4 0)) })
     given y ext alive is_of = by_role v.role refl
       where
         seen : v.seen ≡ r.t.log
         seen = (has_seen M decides k s r id v w at turn).1
 
-        by_role : (role : Role) → v.role ≡ role → Kept M decides k (record { words = set s.words 4 (one_more (get_or s.words 4 0)); homes = some (Some y) ∷ []; views = set s.views id (gave M y v (get_or s.words 4 0)) })
+        by_role : (role : Role) → v.role ≡ role → RuleHolds M decides k (record { words = set s.words 4 (one_more (get_or s.words 4 0)); homes = some (Some y) ∷ []; views = set s.views id (gave M y v (get_or s.words 4 0)) })
         by_role Spent is = absurd (subst IsLive is alive)
         by_role (Caller n) is = ⊎_elim
             (λ same.
@@ -255,7 +255,7 @@ module _ {V E D O : Type 0} (M : Means V E D O) (decides : D → Decisions) (k :
             (λ same.
             let e : M.history y ≡ r.t.log = same ∙ seen in
             passed_on y (grown_same v.role (M.history y) e last) alive
-            (λ role z. ((λ _. ap (controls M.kind) e ∙ (h.controls_are ∙ sym (entries_same v.desk.turns (item_of M v y) (ap (entry_added v.seen) same ∙ nothing_added v.seen)))), (λ no. absurd (no (sym z ∙ is))))) is_of)
+            (λ role z. ((λ _. ap (controls M.kind) e ∙ (h.controls_are ∙ sym (entries_same v.admin_view.turns (item_of M v y) (ap (entry_added v.seen) same ∙ nothing_added v.seen)))), (λ no. absurd (no (sym z ∙ is))))) is_of)
             (λ added.
             let e = added.0 in
             let more : M.history y ≡ r.t.log ++ e ∷ [] = added.1 ∙ ap (λ (l : List E). l ++ e ∷ []) seen in
@@ -264,7 +264,7 @@ module _ {V E D O : Type 0} (M : Means V E D O) (decides : D → Decisions) (k :
             passed_on y (subst (λ (x : Role). Grown r.t x (M.history y)) (sym is) g.0) alive
             (λ role z. (
               (λ _. ap (controls M.kind) more ∙ (controls_own M.kind r.t.log e g.1 ∙ (ap (λ (l : List E). l ++ e ∷ []) h.controls_are
-                  ∙ sym (entries_more v.desk.turns (item_of M v y) e (ap (entry_added v.seen) added.1 ∙ one_added v.seen e))))),
+                  ∙ sym (entries_more v.admin_view.turns (item_of M v y) e (ap (entry_added v.seen) added.1 ∙ one_added v.seen e))))),
               (λ no. absurd (no (sym z ∙ is))),
             )) is_of)
             ext.0
@@ -280,7 +280,7 @@ module _ {V E D O : Type 0} (M : Means V E D O) (decides : D → Decisions) (k :
 
   -- passing the turn on: one fetch_add of word 4
   pub give : (slots id : ℕ) (me : Me (Option V) (View E D O)) (w : ℕ) (y : V) → IsLive me.0.role → me.0.ticket ≡ Served w → me.1 ≡ (0, Some y) ∷ [] → Extends M.kind me.0 (M.history y)
-      → ((f : Fixed D O) → me.0.fixed ≡ Some f → IsOf M f y) → Allows (Kept M decides k) slots id me 4 (λ n. (n + 1) % 18446744073709551616) (told.gives M decides (step slots 4 1 0 none) me)
+      → ((f : Fixed D O) → me.0.fixed ≡ Some f → IsOf M f y) → Allows (RuleHolds M decides k) slots id me 4 (λ n. (n + 1) % 18446744073709551616) (told.gives M decides (step slots 4 1 0 none) me)
   give slots id me w y alive turn carry ext is_of s r deep at low =
       let g = get_or s.words 4 0 in
       let v = me.0 in
@@ -289,7 +289,7 @@ module _ {V E D O : Type 0} (M : Means V E D O) (decides : D → Decisions) (k :
         gave M y v g,
         gives,
         tt,
-        subst (λ (hs : List (maybe.Option (Option V))). Kept M decides k (record { words = set s.words 4 (one_more g); homes = hs; views = set s.views id (gave M y v g) })) (sym homes)
+        subst (λ (hs : List (maybe.Option (Option V))). RuleHolds M decides k (record { words = set s.words 4 (one_more g); homes = hs; views = set s.views id (gave M y v g) })) (sym homes)
             (given s r id v at w turn y ext alive (is_of (fixed_of M k) (names M decides k (fixed_of M k) r.t id v v.role alive (r.each id v at).role))),
         (
           (λ y' e.

@@ -21,7 +21,7 @@ use Rattle.gate_rule.specs.Meaning.{Means}
 use Rattle.gate_rule.specs.Tickets.{Tickets, has_turn}
 use Rattle.gate_rule.specs.Passes.{Passes}
 use Rattle.gate_rule.specs.Views.{IsLive, is_caller, done, traced}
-use Rattle.gate_rule.specs.Rule.{Kept, Truth, Fits, FitsRole, role_of, ticket_of, rights_of, fixed_of}
+use Rattle.gate_rule.specs.Rule.{RuleHolds, Truth, Fits, FitsRole, role_of, ticket_of, rights_of, fixed_of}
 use Rattle.gate_rule.specs.Told as told
 use Rattle.gate_rule.proofs.Places.{each_set, map_kept, within, word_else, word_here, word_same}
 use Rattle.gate_rule.proofs.Passing as passing
@@ -41,7 +41,7 @@ counter_is ws (suc zero) lt = refl
 counter_is ws (suc (suc p)) lt = absurd (omega arith)
 
 module _ {V E D O : Type 0} (M : Means V E D O) (decides : D → Decisions) (k : Terms V D) where
-  module _ (s : State (Option V) (View E D O)) (r : Kept M decides k s) (id : ℕ) (v : View E D O) (at : get_elem? s.views id ≡ some v) (is : v.role ≡ Admin) where
+  module _ (s : State (Option V) (View E D O)) (r : RuleHolds M decides k s) (id : ℕ) (v : View E D O) (at : get_elem? s.views id ≡ some v) (is : v.role ≡ Admin) where
     pub admin_is : FitsRole M (fixed_of M k) r.t id v Admin
     admin_is = subst (FitsRole M (fixed_of M k) r.t id v) is (r.each id v at).role
 
@@ -53,7 +53,7 @@ module _ {V E D O : Type 0} (M : Means V E D O) (decides : D → Decisions) (k :
     one_admin j other u t h = other (h.first ∙ sym admin_is.first)
 
     -- as many callers have a pass of a parity as are not retired at most
-    pub out_within : (p : ℕ) → sum_by (inside_at p) (map rights_of s.views) + length v.desk.ended ≤ v.desk.made
+    pub out_within : (p : ℕ) → sum_by (inside_at p) (map rights_of s.views) + length v.admin_view.ended ≤ v.admin_view.made
     out_within p =
         let le = sum_under rights_of role_of (inside_at p) is_caller s.views (λ j u there. one j u u.role refl (r.each j u there).role) in
         let n = r.numbers in let h = admin_is in let a = h.made in let b = h.retired in omega arith
@@ -64,9 +64,9 @@ module _ {V E D O : Type 0} (M : Means V E D O) (decides : D → Decisions) (k :
         one j u Admin e h = let z : at_parity p u.rights.pass ≡ 0 = ap (at_parity p) h.outside in omega arith
 
   -- raising the number: one fetch_add of the gate word
-  pub raise : (slots id : ℕ) (me : Me (Option V) (View E D O)) (w by ver : ℕ) → me.0.role ≡ Admin → me.0.ticket ≡ Served w → settled_in M.kind me.0.seen ≡ me.0.desk.newest
-      → ((f : Fixed D O) → me.0.fixed ≡ Some f → (me.0.desk.newest < f.most) × (ver < (decides f.decider).versions)) → by + me.0.desk.version * 68719476736 ≡ 17592186044416 + ver * 68719476736
-      → Allows (Kept M decides k) slots id me 0 (λ n. (n + by) % 18446744073709551616) (told.raises M decides (step slots 0 by 0 none) me)
+  pub raise : (slots id : ℕ) (me : Me (Option V) (View E D O)) (w by ver : ℕ) → me.0.role ≡ Admin → me.0.ticket ≡ Served w → settled_in M.kind me.0.seen ≡ me.0.admin_view.newest
+      → ((f : Fixed D O) → me.0.fixed ≡ Some f → (me.0.admin_view.newest < f.most) × (ver < (decides f.decider).versions)) → by + me.0.admin_view.version * 68719476736 ≡ 17592186044416 + ver * 68719476736
+      → Allows (RuleHolds M decides k) slots id me 0 (λ n. (n + by) % 18446744073709551616) (told.raises M decides (step slots 0 by 0 none) me)
   raise slots id me w by ver is turn at_rest ask amount s r deep at low =
       let v = me.0 in
       let g = get_or s.words 0 0 in
@@ -95,7 +95,7 @@ module _ {V E D O : Type 0} (M : Means V E D O) (decides : D → Decisions) (k :
       let in_c = passing.counted_in rs c r.t.settled r.t.forced r.t.counted un r.t.clear r.t.version g (get_or s.words 1 0) (get_or s.words 2 0) r.passes in
       let last : last_notice M.kind r.t.log ≡ (c, r.t.version c) = ⊎_elim (λ e. e) (λ p. let z = p.5 in absurd (omega arith)) r.noticed in
       let t' : Truth E = record r.t { newest = c + 1; counted = r.passes.entered - r.t.counted; version = put r.t.version (c + 1) ver } in
-      let kept : Kept M decides k (record { words = ws; homes = s.homes; views = set s.views id v' }) = record {
+      let kept : RuleHolds M decides k (record { words = ws; homes = s.homes; views = set s.views id v' }) = record {
         t = t';
         wide = length-set s.words 0 l ∙ r.wide;
         seats = (length-set s.views id v' ∙ r.seats.0, r.seats.1, r.seats.2);
@@ -147,15 +147,15 @@ module _ {V E D O : Type 0} (M : Means V E D O) (decides : D → Decisions) (k :
         ),
       )
     where
-      others : (s : State (Option V) (View E D O)) (r : Kept M decides k s) (id : ℕ) (v : View E D O) (at : get_elem? s.views id ≡ some v) (is : v.role ≡ Admin) (ver : ℕ) (j : ℕ) → j ≢ id → (u : View E D O) → (role : Role) → FitsRole M (fixed_of M k) r.t j u role
+      others : (s : State (Option V) (View E D O)) (r : RuleHolds M decides k s) (id : ℕ) (v : View E D O) (at : get_elem? s.views id ≡ some v) (is : v.role ≡ Admin) (ver : ℕ) (j : ℕ) → j ≢ id → (u : View E D O) → (role : Role) → FitsRole M (fixed_of M k) r.t j u role
           → FitsRole M (fixed_of M k) (record r.t { newest = r.t.newest + 1; counted = r.passes.entered - r.t.counted; version = put r.t.version (r.t.newest + 1) ver }) j u role
       others s r id v at is ver j other u Spent h = h
       others s r id v at is ver j other u (Caller n) h = h
       others s r id v at is ver j other u Admin h = absurd (one_admin s r id v at is j other u r.t h)
 
   -- counting the older passes: one load of the leave counter of the other parity
-  pub count : (slots id : ℕ) (me : Me (Option V) (View E D O)) (w : ℕ) → me.0.role ≡ Admin → me.0.ticket ≡ Served w → settled_in M.kind me.0.seen ≢ me.0.desk.newest
-      → (i : ℕ) → i ≡ leave_word (me.0.desk.newest + 1) → Allows (Kept M decides k) slots id me i (λ n. n) (told.counts M decides (step slots i 0 0 none) me)
+  pub count : (slots id : ℕ) (me : Me (Option V) (View E D O)) (w : ℕ) → me.0.role ≡ Admin → me.0.ticket ≡ Served w → settled_in M.kind me.0.seen ≢ me.0.admin_view.newest
+      → (i : ℕ) → i ≡ leave_word (me.0.admin_view.newest + 1) → Allows (RuleHolds M decides k) slots id me i (λ n. n) (told.counts M decides (step slots i 0 0 none) me)
   count slots id me w is turn pending i at_word s r deep at low =
       let v = me.0 in
       let g = get_or s.words i 0 in
@@ -177,7 +177,7 @@ module _ {V E D O : Type 0} (M : Means V E D O) (decides : D → Decisions) (k :
       let cleared : Passes rs c r.t.settled r.t.forced r.t.counted un (cond (eqb (r.t.counted - g) 0) c r.t.clear) r.t.version (get_or s.words 0 0) (get_or s.words 1 0) (get_or s.words 2 0) =
       clears s r (eqb (r.t.counted - g) 0) (λ e. let z : r.t.counted - g ≡ 0 = eqb-true (r.t.counted - g) 0 e in
       passing.clears rs c r.t.settled r.t.forced r.t.counted un r.t.clear r.t.version (get_or s.words 0 0) (get_or s.words 1 0) (get_or s.words 2 0) r.passes next (omega arith)) in
-      let kept : Kept M decides k (record { words = s.words; homes = s.homes; views = set s.views id v' }) = record {
+      let kept : RuleHolds M decides k (record { words = s.words; homes = s.homes; views = set s.views id v' }) = record {
         t = t';
         wide = r.wide;
         seats = (length-set s.views id v' ∙ r.seats.0, r.seats.1, r.seats.2);
@@ -206,24 +206,24 @@ module _ {V E D O : Type 0} (M : Means V E D O) (decides : D → Decisions) (k :
         v',
         keeps,
         tt,
-        subst (λ (ws : List ℕ). Kept M decides k (record { words = ws; homes = s.homes; views = set s.views id v' })) (sym (word_same s.words i)) kept,
+        subst (λ (ws : List ℕ). RuleHolds M decides k (record { words = ws; homes = s.homes; views = set s.views id v' })) (sym (word_same s.words i)) kept,
         (refl, (let y = h.counted in omega arith), (let y = h.counted in let o = out_within s r id v at is ((c + 1) % 2) in omega arith), stood M decides k s r id v at alive i),
       )
     where
-      clears : (s : State (Option V) (View E D O)) (r : Kept M decides k s) (b : Bool)
+      clears : (s : State (Option V) (View E D O)) (r : RuleHolds M decides k s) (b : Bool)
           → (b ≡ true → Passes (map rights_of s.views) r.t.newest r.t.settled r.t.forced r.t.counted ((k.seats - r.t.made) * k.quota) r.t.newest r.t.version (get_or s.words 0 0) (get_or s.words 1 0) (get_or s.words 2 0))
           → Passes (map rights_of s.views) r.t.newest r.t.settled r.t.forced r.t.counted ((k.seats - r.t.made) * k.quota) (cond b r.t.newest r.t.clear) r.t.version (get_or s.words 0 0) (get_or s.words 1 0) (get_or s.words 2 0)
       clears s r true p = p refl
       clears s r false p = r.passes
 
-      others : (s : State (Option V) (View E D O)) (r : Kept M decides k s) (id : ℕ) (v : View E D O) (at : get_elem? s.views id ≡ some v) (is : v.role ≡ Admin) (g : ℕ) (j : ℕ) → j ≢ id → (u : View E D O) → (role : Role) → FitsRole M (fixed_of M k) r.t j u role
+      others : (s : State (Option V) (View E D O)) (r : RuleHolds M decides k s) (id : ℕ) (v : View E D O) (at : get_elem? s.views id ≡ some v) (is : v.role ≡ Admin) (g : ℕ) (j : ℕ) → j ≢ id → (u : View E D O) → (role : Role) → FitsRole M (fixed_of M k) r.t j u role
           → FitsRole M (fixed_of M k) (record r.t { clear = cond (eqb (r.t.counted - g) 0) r.t.newest r.t.clear }) j u role
       others s r id v at is g j other u Spent h = h
       others s r id v at is g j other u (Caller n) h = h
       others s r id v at is g j other u Admin h = absurd (one_admin s r id v at is j other u r.t h)
 
   -- a glance at the gate word by the administrator
-  pub glance : (slots id : ℕ) (me : Me (Option V) (View E D O)) → me.0.role ≡ Admin → Allows (Kept M decides k) slots id me 0 (λ n. n) (told.glances M decides (step slots 0 0 0 none) me)
+  pub glance : (slots id : ℕ) (me : Me (Option V) (View E D O)) → me.0.role ≡ Admin → Allows (RuleHolds M decides k) slots id me 0 (λ n. n) (told.glances M decides (step slots 0 0 0 none) me)
   glance slots id me is s r deep at low =
       let v = me.0 in
       let g = get_or s.words 0 0 in

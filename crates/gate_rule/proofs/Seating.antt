@@ -22,7 +22,7 @@ use Rattle.gate_rule.specs.Meaning.{Means}
 use Rattle.gate_rule.specs.Tickets.{Tickets, FitsTicket, has_turn}
 use Rattle.gate_rule.specs.Passes.{Passes, FitsPass}
 use Rattle.gate_rule.specs.Views.{IsLive, is_caller}
-use Rattle.gate_rule.specs.Rule.{Kept, Truth, Fits, FitsRole, FitsEnded, IsHome, IsOut, IsOf, HasOf, IsTurn, role_of, ticket_of, rights_of, fixed_of}
+use Rattle.gate_rule.specs.Rule.{RuleHolds, Truth, Fits, FitsRole, FitsEnded, IsHome, IsOut, IsOf, HasOf, IsTurn, role_of, ticket_of, rights_of, fixed_of}
 use Rattle.gate_rule.specs.Told.{Closes}
 use Rattle.gate_rule.proofs.Places.{each_set, map_kept, map_moved, same_place}
 use Rattle.gate_rule.proofs.Serving as serving
@@ -54,8 +54,8 @@ module _ {V E D O : Type 0} (M : Means V E D O) (decides : D → Decisions) (k :
   ended_made t new e h = let lt = h.0 in (omega arith, put_else t.live t.made true e.number (λ z. omega arith) ∙ h.1, h.2)
 
   -- making a seat
-  pub make : (id : ℕ) (v : View E D O) → v.role ≡ Admin → ((f : Fixed D O) → v.fixed ≡ Some f → v.desk.made < f.seats)
-      → Splits (Kept M decides k) id v (with_seat v) (new_seat v)
+  pub make : (id : ℕ) (v : View E D O) → v.role ≡ Admin → ((f : Fixed D O) → v.fixed ≡ Some f → v.admin_view.made < f.seats)
+      → Splits (RuleHolds M decides k) id v (with_seat v) (new_seat v)
   make id v is room s r at =
       let h = admin_is M decides k s r id v at is in
       let named : v.fixed ≡ Some (fixed_of M k) = h.fixed in
@@ -69,7 +69,7 @@ module _ {V E D O : Type 0} (M : Means V E D O) (decides : D → Decisions) (k :
       let quota_is : quota_in v.fixed ≡ k.quota = ap quota_in named in
       let rights_are : map rights_of (before ++ new ∷ []) ≡ map rights_of s.views ++ (record { pass = Out; quota = k.quota }) ∷ [] =
       map_more rights_of before new ∙ (λ i. map_kept rights_of s.views id v v' at refl i ++ (record { pass = Out; quota = quota_is i }) ∷ []) in
-      let roles_are : map role_of (before ++ new ∷ []) ≡ map role_of s.views ++ Caller v.desk.made ∷ [] = map_more role_of before new ∙ ap (λ (l : List Role). l ++ Caller v.desk.made ∷ []) (map_kept role_of s.views id v v' at refl) in
+      let roles_are : map role_of (before ++ new ∷ []) ≡ map role_of s.views ++ Caller v.admin_view.made ∷ [] = map_more role_of before new ∙ ap (λ (l : List Role). l ++ Caller v.admin_view.made ∷ []) (map_kept role_of s.views id v v' at refl) in
       let left_is : k.seats - r.t.made ≡ suc (k.seats - (r.t.made + 1)) = omega arith in
       let unmade_is : (k.seats - (r.t.made + 1)) * k.quota + k.quota ≡ (k.seats - r.t.made) * k.quota =
       let e : suc (k.seats - (r.t.made + 1)) * k.quota ≡ (k.seats - (r.t.made + 1)) * k.quota + k.quota = suc-mul (k.seats - (r.t.made + 1)) k.quota in sym (ap (λ (x : ℕ). x * k.quota) left_is ∙ e) in
@@ -77,8 +77,8 @@ module _ {V E D O : Type 0} (M : Means V E D O) (decides : D → Decisions) (k :
         t = t';
         wide = r.wide;
         seats = ((let a = length-append before (new ∷ []) in let b = length-set s.views id v' in let c = r.seats.0 in omega arith), (let q = open_seat in omega arith), r.seats.2);
-        first = subst (λ (l : List Role). get_elem? l 0 ≡ some Admin) (sym roles_are) (at_longer (map role_of s.views) (Caller v.desk.made ∷ []) 0 Admin r.first);
-        numbers = subst (λ (l : List Role). sum_by is_caller l + r.t.gone ≡ r.t.made + 1) (sym roles_are) (let n = r.numbers in omega (arith, sum_by_push is_caller (map role_of s.views) (Caller v.desk.made)));
+        first = subst (λ (l : List Role). get_elem? l 0 ≡ some Admin) (sym roles_are) (at_longer (map role_of s.views) (Caller v.admin_view.made ∷ []) 0 Admin r.first);
+        numbers = subst (λ (l : List Role). sum_by is_caller l + r.t.gone ≡ r.t.made + 1) (sym roles_are) (let n = r.numbers in omega (arith, sum_by_push is_caller (map role_of s.views) (Caller v.admin_view.made)));
         tickets = subst (λ (l : List Ticket). Tickets l (get_or s.words 3 0) (get_or s.words 4 0)) (sym tickets_are) (serving.joins (map ticket_of s.views) (get_or s.words 3 0) (get_or s.words 4 0) r.tickets);
         passes = subst (λ (l : List Rights). Passes l r.t.newest r.t.settled r.t.forced r.t.counted ((k.seats - (r.t.made + 1)) * k.quota) r.t.clear r.t.version (get_or s.words 0 0) (get_or s.words 1 0) (get_or s.words 2 0)) (sym rights_are)
             (passing.makes (map rights_of s.views) r.t.newest r.t.settled r.t.forced r.t.counted ((k.seats - r.t.made) * k.quota) r.t.clear r.t.version (get_or s.words 0 0) (get_or s.words 1 0) (get_or s.words 2 0) r.passes k.quota ((k.seats - (r.t.made + 1)) * k.quota) unmade_is);
@@ -122,8 +122,8 @@ module _ {V E D O : Type 0} (M : Means V E D O) (decides : D → Decisions) (k :
         unmade = λ n le. r.unmade n (omega arith);
       }
     where
-      new_role : (r : Kept M decides k s) → FitsRole M (fixed_of M k) r.t id v Admin → v.fixed ≡ Some (fixed_of M k) → (here : ℕ)
-          → FitsRole M (fixed_of M k) (record r.t { made = r.t.made + 1; holder = put r.t.holder r.t.made here; live = put r.t.live r.t.made true }) here (new_seat v) (Caller v.desk.made)
+      new_role : (r : RuleHolds M decides k s) → FitsRole M (fixed_of M k) r.t id v Admin → v.fixed ≡ Some (fixed_of M k) → (here : ℕ)
+          → FitsRole M (fixed_of M k) (record r.t { made = r.t.made + 1; holder = put r.t.holder r.t.made here; live = put r.t.live r.t.made true }) here (new_seat v) (Caller v.admin_view.made)
       new_role r h named here =
           subst (λ (x : ℕ). FitsRole M (fixed_of M k) (record r.t { made = r.t.made + 1; holder = put r.t.holder r.t.made here; live = put r.t.live r.t.made true }) here (new_seat v) (Caller x)) (sym h.made)
           (omega arith, put_here r.t.holder r.t.made here, put_here r.t.live r.t.made true, sym (r.unmade r.t.made (omega arith)), named)
@@ -159,7 +159,7 @@ module _ {V E D O : Type 0} (M : Means V E D O) (decides : D → Decisions) (k :
 
   -- retiring a seat
   pub retire : (id : ℕ) (v : View E D O) (other : ℕ) (w : View E D O) (n : ℕ) → v.role ≡ Admin → w.role ≡ Caller n → w.ticket ≡ Without → w.rights.pass ≡ Out
-      → Joins (Kept M decides k) id v other w (with_ended v w) spent_seat
+      → Joins (RuleHolds M decides k) id v other w (with_ended v w) spent_seat
   retire id v other w n is caller waits out s r at apart there =
       let h = admin_is M decides k s r id v at is in
       let v' = with_ended v w in
@@ -220,8 +220,8 @@ module _ {V E D O : Type 0} (M : Means V E D O) (decides : D → Decisions) (k :
               role = subst (FitsRole M (fixed_of M k) (record r.t { gone = r.t.gone + 1; live = put r.t.live n false }) id v') (sym is) (record {
                 first = h.first;
                 made = h.made;
-                retired = (let x = length-append v.desk.ended ((record { number = caller_of w.role; entries = w.mine }) ∷ []) in let y = h.retired in omega arith);
-                ended = each_more (λ i (e : Ended E). FitsEnded M (record r.t { gone = r.t.gone + 1; live = put r.t.live n false }) e) v.desk.ended (record { number = caller_of w.role; entries = w.mine })
+                retired = (let x = length-append v.admin_view.ended ((record { number = caller_of w.role; entries = w.mine }) ∷ []) in let y = h.retired in omega arith);
+                ended = each_more (λ i (e : Ended E). FitsEnded M (record r.t { gone = r.t.gone + 1; live = put r.t.live n false }) e) v.admin_view.ended (record { number = caller_of w.role; entries = w.mine })
                     (let num : caller_of w.role ≡ n = ap caller_of caller in
                     (subst (λ (x : ℕ). x < r.t.made) (sym num) own.0, ap (put r.t.live n false) num ∙ put_here r.t.live n false, own.3 ∙ ap (λ (x : ℕ). of_caller M.kind x r.t.log) (sym num)))
                     (λ i e at_i. let z = h.ended i e at_i in (z.0, put_else r.t.live n false e.number (λ q. let a : r.t.live e.number ≡ true = ap r.t.live q ∙ own.2 in let b = z.1 in absurd (cc)) ∙ z.1, z.2));
@@ -234,7 +234,7 @@ module _ {V E D O : Type 0} (M : Means V E D O) (decides : D → Decisions) (k :
                 fixed = h.fixed;
                 outside = h.outside;
                 turns = h.turns;
-                once = once_more (λ (e : Ended E). e.number) v.desk.ended (record { number = caller_of w.role; entries = w.mine }) h.once
+                once = once_more (λ (e : Ended E). e.number) v.admin_view.ended (record { number = caller_of w.role; entries = w.mine }) h.once
                     (λ i e at_i q. let a : r.t.live e.number ≡ true = ap r.t.live (q ∙ ap caller_of caller) ∙ own.2 in let b = (h.ended i e at_i).1 in absurd (cc));
               });
             })
@@ -250,7 +250,7 @@ module _ {V E D O : Type 0} (M : Means V E D O) (decides : D → Decisions) (k :
   -- the table at the start
   pub opens : (ws : List ℕ) (x : V) → length ws ≡ 517 → ((i : ℕ) → get_or ws i 0 ≡ 0) → x ≡ k.first.value → M.history x ≡ [] → M.decider x ≡ k.decider.value → M.promise (M.opening x) k.decider.value [] → M.keeps x
       → (0 < (decides k.decider.value).versions) × ((decides k.decider.value).versions ≤ 256) → k.seats ≤ 64 → k.quota ≤ 536870912 → k.most < 1048576
-      → Kept M decides k (opening ws (Some x ∷ []) (first_seat (fixed_of M k)))
+      → RuleHolds M decides k (opening ws (Some x ∷ []) (first_seat (fixed_of M k)))
   opens ws x wide empty first fresh decider promise keeps versions seats quota most =
       let f = fixed_of M k in
       let begins : M.promise (fixed_of M k).opening (fixed_of M k).decider [] = subst (λ (o : O). M.promise o k.decider.value []) (ap M.opening first) promise in
@@ -285,7 +285,7 @@ module _ {V E D O : Type 0} (M : Means V E D O) (decides : D → Decisions) (k :
       }
 
   -- the table at the end, once every caller is retired: the value is in the slot
-  pub ends : (s : State (Option V) (View E D O)) (r : Kept M decides k s) (id : ℕ) (v : View E D O) → get_elem? s.views id ≡ some v → v.role ≡ Admin → v.ticket ≡ Without → v.desk.made ≡ length v.desk.ended
+  pub ends : (s : State (Option V) (View E D O)) (r : RuleHolds M decides k s) (id : ℕ) (v : View E D O) → get_elem? s.views id ≡ some v → v.role ≡ Admin → v.ticket ≡ Without → v.admin_view.made ≡ length v.admin_view.ended
       → (x : V) × (s.homes ≡ some (Some x) ∷ []) × Closes M v x
   ends s r id v at is idle all = ⊎_elim home out r.place
     where
@@ -314,7 +314,7 @@ module _ {V E D O : Type 0} (M : Means V E D O) (decides : D → Decisions) (k :
         record {
           value = λ f e. subst (λ (y : Fixed D O). IsOf M y p.0) (same f e) (p.4, p.5, subst (M.promise (fixed_of M k).opening (fixed_of M k).decider) (sym p.2) r.promised, p.6);
           controls_are = ap (controls M.kind) p.2 ∙ h.controls_are;
-          turns = λ f e. subst (λ (y : Fixed D O). (i : ℕ) (turn : Item E) → get_elem? v.desk.turns i ≡ some turn → IsTurn M y turn) (same f e) h.turns;
+          turns = λ f e. subst (λ (y : Fixed D O). (i : ℕ) (turn : Item E) → get_elem? v.admin_view.turns i ≡ some turn → IsTurn M y turn) (same f e) h.turns;
           ended = λ i e there. let z = h.ended i e there in ((let a = z.0 in let b = h.made in omega arith), z.2 ∙ ap (of_caller M.kind e.number) (sym p.2));
           once = h.once;
           unmade = λ n le. ap (of_caller M.kind n) p.2 ∙ r.unmade n (let b = h.made in omega arith);

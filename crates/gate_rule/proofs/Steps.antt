@@ -25,7 +25,7 @@ use Rattle.gate_rule.specs.Tickets.{Tickets, has_turn}
 use Rattle.gate_rule.specs.Passes.{Passes, FitsPass}
 use Rattle.gate_rule.specs.Rows.{Rows, FitsRow, shows, key_row, IsKey}
 use Rattle.gate_rule.specs.Views.{IsLive, is_caller, number_in, version_in, number_of, pass_version, one_more, leave_word, done, traced, saw_row}
-use Rattle.gate_rule.specs.Rule.{Kept, Truth, Fits, FitsRole, HasOf, role_of, ticket_of, rights_of, fixed_of}
+use Rattle.gate_rule.specs.Rule.{RuleHolds, Truth, Fits, FitsRole, HasOf, role_of, ticket_of, rights_of, fixed_of}
 use Rattle.gate_rule.specs.Told.{Stands, IsPassFor, enters, leaves, draws, sees_row, fills_row}
 use Rattle.gate_rule.proofs.Places.{each_set, kept_at, map_kept, map_moved, word_else, word_here, word_same}
 use Rattle.gate_rule.proofs.Serving as serving
@@ -61,13 +61,13 @@ module _ {V E D O : Type 0} (M : Means V E D O) (decides : D → Decisions) (k :
   role_stays t id v x y z q Admin alive out h = record { first = h.first; made = h.made; retired = h.retired; ended = h.ended; newest = h.newest; version = h.version; counted = h.counted; clear = h.clear; controls_are = h.controls_are; known = h.known; fixed = h.fixed; outside = out refl; turns = h.turns; once = h.once }
 
   -- a step that changes one seat's ticket, but not whether it has the turn, its rights, its trace and the keys served
-  pub light : (s : State (Option V) (View E D O)) (r : Kept M decides k s) (id : ℕ) (v : View E D O) → get_elem? s.views id ≡ some v
+  pub light : (s : State (Option V) (View E D O)) (r : RuleHolds M decides k s) (id : ℕ) (v : View E D O) → get_elem? s.views id ≡ some v
       → (x : Ticket) (y : Rights) (z : Trace) (q : List Key) (ws : List ℕ)
       → IsLive v.role → has_turn x ≡ has_turn v.ticket → (v.role ≡ Admin → y.pass ≡ Out) → length ws ≡ 517
       → Tickets (set (map ticket_of s.views) id x) (get_or ws 3 0) (get_or ws 4 0)
       → Passes (set (map rights_of s.views) id y) r.t.newest r.t.settled r.t.forced r.t.counted ((k.seats - r.t.made) * k.quota) r.t.clear r.t.version (get_or ws 0 0) (get_or ws 1 0) (get_or ws 2 0)
       → Rows (decides (fixed_of M k).decider) r.t.newest r.t.version ws
-      → Kept M decides k (record { words = ws; homes = s.homes; views = set s.views id (changed v x y z q) })
+      → RuleHolds M decides k (record { words = ws; homes = s.homes; views = set s.views id (changed v x y z q) })
   light s r id v at x y z q ws alive turn out wide ts ps rows =
       let w = changed v x y z q in
       record {
@@ -108,39 +108,39 @@ module _ {V E D O : Type 0} (M : Means V E D O) (decides : D → Decisions) (k :
   no_pass f t id v (Caller n) h e = absurd (cc)
   no_pass f t id v Admin h e = h.outside
 
-  pub same_fixed : (s : State (Option V) (View E D O)) (r : Kept M decides k s) (id : ℕ) (v : View E D O) → get_elem? s.views id ≡ some v → IsLive v.role → (f : Fixed D O) → v.fixed ≡ Some f → fixed_of M k ≡ f
+  pub same_fixed : (s : State (Option V) (View E D O)) (r : RuleHolds M decides k s) (id : ℕ) (v : View E D O) → get_elem? s.views id ≡ some v → IsLive v.role → (f : Fixed D O) → v.fixed ≡ Some f → fixed_of M k ≡ f
   same_fixed s r id v at alive f e = let h : v.fixed ≡ Some (fixed_of M k) = names (fixed_of M k) r.t id v v.role alive (r.each id v at).role in cc
 
-  pub stood : (s : State (Option V) (View E D O)) (r : Kept M decides k s) (id : ℕ) (v : View E D O) → get_elem? s.views id ≡ some v → IsLive v.role → (i : ℕ) → Stands M decides v i (get_or s.words i 0)
+  pub stood : (s : State (Option V) (View E D O)) (r : RuleHolds M decides k s) (id : ℕ) (v : View E D O) → get_elem? s.views id ≡ some v → IsLive v.role → (i : ℕ) → Stands M decides v i (get_or s.words i 0)
   stood s r id v at alive i f e = (k, s, id, r, same_fixed s r id v at alive f e, at, refl)
 
   -- the newest number is small, and so is its version
-  pub small : (s : State (Option V) (View E D O)) (r : Kept M decides k s) → (r.t.newest < 1048576) × (r.t.version r.t.newest < 256)
+  pub small : (s : State (Option V) (View E D O)) (r : RuleHolds M decides k s) → (r.t.newest < 1048576) × (r.t.version r.t.newest < 256)
   small s r = let w = r.dated.within in let b = r.dated.bounds in let v = r.dated.known r.t.newest (omega arith) in (omega arith, omega arith)
 
-  pub tickets_same : (s : State (Option V) (View E D O)) (r : Kept M decides k s) (id : ℕ) (v : View E D O) → get_elem? s.views id ≡ some v → Tickets (set (map ticket_of s.views) id v.ticket) (get_or s.words 3 0) (get_or s.words 4 0)
+  pub tickets_same : (s : State (Option V) (View E D O)) (r : RuleHolds M decides k s) (id : ℕ) (v : View E D O) → get_elem? s.views id ≡ some v → Tickets (set (map ticket_of s.views) id v.ticket) (get_or s.words 3 0) (get_or s.words 4 0)
   tickets_same s r id v at = subst (λ (l : List Ticket). Tickets l (get_or s.words 3 0) (get_or s.words 4 0)) (sym (set_again (map ticket_of s.views) id v.ticket (at_map ticket_of s.views id v at))) r.tickets
 
-  pub passes_same : (s : State (Option V) (View E D O)) (r : Kept M decides k s) (id : ℕ) (v : View E D O) → get_elem? s.views id ≡ some v
+  pub passes_same : (s : State (Option V) (View E D O)) (r : RuleHolds M decides k s) (id : ℕ) (v : View E D O) → get_elem? s.views id ≡ some v
       → Passes (set (map rights_of s.views) id v.rights) r.t.newest r.t.settled r.t.forced r.t.counted ((k.seats - r.t.made) * k.quota) r.t.clear r.t.version (get_or s.words 0 0) (get_or s.words 1 0) (get_or s.words 2 0)
   passes_same s r id v at =
       subst (λ (l : List Rights). Passes l r.t.newest r.t.settled r.t.forced r.t.counted ((k.seats - r.t.made) * k.quota) r.t.clear r.t.version (get_or s.words 0 0) (get_or s.words 1 0) (get_or s.words 2 0))
       (sym (set_again (map rights_of s.views) id v.rights (at_map rights_of s.views id v at))) r.passes
 
   -- the seat's pass fits
-  pub pass_fits : (s : State (Option V) (View E D O)) (r : Kept M decides k s) (id : ℕ) (v : View E D O) → get_elem? s.views id ≡ some v → FitsPass r.t.newest r.t.settled r.t.forced r.t.clear r.t.version v.rights.pass
+  pub pass_fits : (s : State (Option V) (View E D O)) (r : RuleHolds M decides k s) (id : ℕ) (v : View E D O) → get_elem? s.views id ≡ some v → FitsPass r.t.newest r.t.settled r.t.forced r.t.clear r.t.version v.rights.pass
   pass_fits s r id v at = r.passes.each id v.rights (at_map rights_of s.views id v at)
 
   -- a load of any word
-  pub loads : (s : State (Option V) (View E D O)) (r : Kept M decides k s) (id : ℕ) (v : View E D O) → get_elem? s.views id ≡ some v → (z : Trace) (q : List Key) (i : ℕ) → IsLive v.role
-      → Kept M decides k (record { words = set s.words i (get_or s.words i 0); homes = s.homes; views = set s.views id (changed v v.ticket v.rights z q) })
+  pub loads : (s : State (Option V) (View E D O)) (r : RuleHolds M decides k s) (id : ℕ) (v : View E D O) → get_elem? s.views id ≡ some v → (z : Trace) (q : List Key) (i : ℕ) → IsLive v.role
+      → RuleHolds M decides k (record { words = set s.words i (get_or s.words i 0); homes = s.homes; views = set s.views id (changed v v.ticket v.rights z q) })
   loads s r id v at z q i alive =
-      subst (λ (ws : List ℕ). Kept M decides k (record { words = ws; homes = s.homes; views = set s.views id (changed v v.ticket v.rights z q) })) (sym (word_same s.words i))
+      subst (λ (ws : List ℕ). RuleHolds M decides k (record { words = ws; homes = s.homes; views = set s.views id (changed v v.ticket v.rights z q) })) (sym (word_same s.words i))
       (light s r id v at v.ticket v.rights z q s.words alive refl (no_pass (fixed_of M k) r.t id v v.role (r.each id v at).role) r.wide (tickets_same s r id v at) (passes_same s r id v at) r.rows)
 
   -- entering: one fetch_add of the gate word
   pub enter : (slots id : ℕ) (me : Me (Option V) (View E D O)) (n : ℕ) → me.0.role ≡ Caller n → me.0.rights.pass ≡ Out → 0 < me.0.rights.quota
-      → Allows (Kept M decides k) slots id me 0 (λ w. (w + 1) % 18446744073709551616) (enters M decides (step slots 0 1 0 none) me)
+      → Allows (RuleHolds M decides k) slots id me 0 (λ w. (w + 1) % 18446744073709551616) (enters M decides (step slots 0 1 0 none) me)
   enter slots id me n is out some_left s r deep at low =
       let v = me.0 in
       let alive = caller_live v.role n is in
@@ -169,7 +169,7 @@ module _ {V E D O : Type 0} (M : Means V E D O) (decides : D → Decisions) (k :
 
   -- leaving: one fetch_add of the counter of the pass's parity
   pub leave : (slots id : ℕ) (me : Me (Option V) (View E D O)) (n : ℕ) → me.0.role ≡ Caller n → (num ver : ℕ) → me.0.rights.pass ≡ Inside num ver
-      → (i : ℕ) → i ≡ leave_word num → Allows (Kept M decides k) slots id me i (λ w. (w + 1) % 18446744073709551616) (leaves M decides (step slots i 1 0 none) me)
+      → (i : ℕ) → i ≡ leave_word num → Allows (RuleHolds M decides k) slots id me i (λ w. (w + 1) % 18446744073709551616) (leaves M decides (step slots i 1 0 none) me)
   leave slots id me n is num ver inside i at_word s r deep at low =
       let v = me.0 in
       let alive = caller_live v.role n is in
@@ -206,7 +206,7 @@ module _ {V E D O : Type 0} (M : Means V E D O) (decides : D → Decisions) (k :
 
   -- drawing a ticket: one fetch_add of the next ticket
   pub draw : (slots id : ℕ) (me : Me (Option V) (View E D O)) → IsLive me.0.role → me.0.ticket ≡ Without
-      → Allows (Kept M decides k) slots id me 3 (λ w. (w + 1) % 18446744073709551616) (draws M decides (step slots 3 1 0 none) me)
+      → Allows (RuleHolds M decides k) slots id me 3 (λ w. (w + 1) % 18446744073709551616) (draws M decides (step slots 3 1 0 none) me)
   draw slots id me alive idle s r deep at low =
       let v = me.0 in
       let g = get_or s.words 3 0 in
@@ -226,7 +226,7 @@ module _ {V E D O : Type 0} (M : Means V E D O) (decides : D → Decisions) (k :
 
   -- looking at a row: one load of a key's word
   pub see_row : (slots id : ℕ) (me : Me (Option V) (View E D O)) (n : ℕ) → me.0.role ≡ Caller n → (num ver : ℕ) → me.0.rights.pass ≡ Inside num ver → (key : Key) → IsKey key
-      → (i : ℕ) → 5 ≤ i → i < 517 → Allows (Kept M decides k) slots id me i (λ w. w) (sees_row M decides key (step slots i 0 0 none) me)
+      → (i : ℕ) → 5 ≤ i → i < 517 → Allows (RuleHolds M decides k) slots id me i (λ w. w) (sees_row M decides key (step slots i 0 0 none) me)
   see_row slots id me n is num ver inside key is_key i from to s r deep at low =
       let v = me.0 in
       let alive = caller_live v.role n is in
@@ -254,7 +254,7 @@ module _ {V E D O : Type 0} (M : Means V E D O) (decides : D → Decisions) (k :
   -- filling a row: one swap of a key's word
   pub fill_row : (slots id : ℕ) (me : Me (Option V) (View E D O)) (n : ℕ) → me.0.role ≡ Caller n → (num ver : ℕ) → me.0.rights.pass ≡ Inside num ver → (key : Key) → IsKey key → (vec : ℕ) → vec < 65536
       → ((f : Fixed D O) → me.0.fixed ≡ Some f → vec ≡ (decides f.decider).vector ver key.source key.target key.class)
-      → (i : ℕ) → 5 ≤ i → i < 517 → Allows (Kept M decides k) slots id me i (λ _. key_row num key vec) (fills_row M decides key (step slots i (key_row num key vec) 0 none) me)
+      → (i : ℕ) → 5 ≤ i → i < 517 → Allows (RuleHolds M decides k) slots id me i (λ _. key_row num key vec) (fills_row M decides key (step slots i (key_row num key vec) 0 none) me)
   fill_row slots id me n is num ver inside key is_key vec short right i from to s r deep at low =
       let v = me.0 in
       let alive = caller_live v.role n is in

@@ -25,7 +25,7 @@ use Rattle.gate_rule.specs.Tickets.{Tickets, has_turn, word_of}
 use Rattle.gate_rule.specs.Passes.{Passes, FitsPass}
 use Rattle.gate_rule.specs.Rows.{Rows}
 use Rattle.gate_rule.specs.Views.{IsLive, is_caller, done, traced, missed, took}
-use Rattle.gate_rule.specs.Rule.{Kept, Fits, FitsRole, IsHome, IsOf, HasOf, role_of, ticket_of, rights_of, fixed_of}
+use Rattle.gate_rule.specs.Rule.{RuleHolds, Fits, FitsRole, IsHome, IsOf, HasOf, role_of, ticket_of, rights_of, fixed_of}
 use Rattle.gate_rule.specs.Told.{IsAllowed, Learns, polls}
 use Rattle.gate_rule.proofs.Places.{each_set, map_kept, map_moved, within, word_same, same_place}
 use Rattle.gate_rule.proofs.Serving as serving
@@ -33,7 +33,7 @@ use Rattle.gate_rule.proofs.Histories.{begins_here, version_last}
 use Rattle.gate_rule.proofs.Steps.{loads, same_fixed, stood, pass_fits}
 
 module _ {V E D O : Type 0} (M : Means V E D O) (decides : D → Decisions) (k : Terms V D) where
-  module _ (s : State (Option V) (View E D O)) (r : Kept M decides k s) where
+  module _ (s : State (Option V) (View E D O)) (r : RuleHolds M decides k s) where
     pub few_views : length (map ticket_of s.views) < 18446744073709551616
     few_views = let a = r.seats.0 in let b = r.seats.1 in let c = r.seats.2 in let l = length-map s.views ticket_of in omega arith
 
@@ -80,7 +80,7 @@ module _ {V E D O : Type 0} (M : Means V E D O) (decides : D → Decisions) (k :
 
   -- looking at the ticket served: one load of word 4
   pub poll : (slots id : ℕ) (me : Me (Option V) (View E D O)) (w : ℕ) → IsLive me.0.role → me.0.ticket ≡ Drawn w → me.1 ≡ []
-      → Allows (Kept M decides k) slots id me 4 (λ n. n) (polls M decides (step slots 4 0 0 none) me)
+      → Allows (RuleHolds M decides k) slots id me 4 (λ n. n) (polls M decides (step slots 4 0 0 none) me)
   poll slots id me w alive waits empty s r deep at low =
       dite (ℕ_discrete (get_or s.words 4 0) w) hit
       (λ ne. (
@@ -100,7 +100,7 @@ module _ {V E D O : Type 0} (M : Means V E D O) (decides : D → Decisions) (k :
       at_ticket : get_elem? (map ticket_of s.views) id ≡ some (Drawn w)
       at_ticket = at_map ticket_of s.views id me.0 at ∙ ap some waits
 
-      hit : get_or s.words 4 0 ≡ w → (w' : View E D O) × (a : Act (Option V)) × Valid s.homes me.1 a × Kept M decides k (stepped s 4 (get_or s.words 4 0) id me.1 w' a) × polls M decides (step slots 4 0 0 none) me (get_or s.words 4 0) (w', carried_after me.1 a)
+      hit : get_or s.words 4 0 ≡ w → (w' : View E D O) × (a : Act (Option V)) × Valid s.homes me.1 a × RuleHolds M decides k (stepped s 4 (get_or s.words 4 0) id me.1 w' a) × polls M decides (step slots 4 0 0 none) me (get_or s.words 4 0) (w', carried_after me.1 a)
       hit same = ⊎_elim home (λ h. let o : has_turn h.1.ticket ≡ false = nobody h.0 h.1 h.3 in let t = h.4 in absurd (cc)) r.place
         where
           nobody : (j : ℕ) (u : View E D O) → get_elem? s.views j ≡ some u → has_turn u.ticket ≡ false
@@ -109,7 +109,7 @@ module _ {V E D O : Type 0} (M : Means V E D O) (decides : D → Decisions) (k :
           last : last_notice M.kind r.t.log ≡ (r.t.newest, r.t.version r.t.newest)
           last = noticed_by_all s r (λ u there turn role. let o : has_turn u.ticket ≡ false = nobody 0 u there in absurd (cc))
 
-          home : IsHome M (fixed_of M k) s.homes r.t.log s.views → (w' : View E D O) × (a : Act (Option V)) × Valid s.homes me.1 a × Kept M decides k (stepped s 4 (get_or s.words 4 0) id me.1 w' a) × polls M decides (step slots 4 0 0 none) me (get_or s.words 4 0) (w', carried_after me.1 a)
+          home : IsHome M (fixed_of M k) s.homes r.t.log s.views → (w' : View E D O) × (a : Act (Option V)) × Valid s.homes me.1 a × RuleHolds M decides k (stepped s 4 (get_or s.words 4 0) id me.1 w' a) × polls M decides (step slots 4 0 0 none) me (get_or s.words 4 0) (w', carried_after me.1 a)
           home h =
               let x = h.0 in
               let hist : M.history x ≡ r.t.log = h.2 in

@@ -70,7 +70,7 @@ module _ {V E D O : Type 0} (M : Means V E D O) where
 
   -- what a seat with the turn says of the value is true of the one that it took: its history, what its slots follow, and how many are stale
   abbrev pub HasOf : Fixed D O → View E D O → Type 0
-  HasOf f v = (x : V) × IsOf f x × (M.history x ≡ v.seen) × (v.follows ≡ maps.entries (M.follows x)) × (v.desk.found ≡ length (M.stale x))
+  HasOf f v = (x : V) × IsOf f x × (M.history x ≡ v.seen) × (v.follows ≡ maps.entries (M.follows x)) × (v.admin_view.found ≡ length (M.stale x))
 
   -- what an item of the administrator's turns says is true of the value that was taken in that turn and of the one that was given back: the entry between them, and how many slots of each are stale
   abbrev pub IsTurn : Fixed D O → Item E → Type 0
@@ -85,19 +85,19 @@ module _ {V E D O : Type 0} (M : Means V E D O) where
   -- what the administrator knows: it is the first seat, and knows how many numbers were made and retired, the retired callers' entries, each number once, the current number with its version, the passes counted and cleared, every notice and acknowledgement, and what it found and left in each turn; it has no pass
   pub record FitsAdmin (f : Fixed D O) (t : Truth E) (seat : ℕ) (v : View E D O) : Type 0 where
     pub first : seat ≡ 0
-    pub made : v.desk.made ≡ t.made
-    pub retired : length v.desk.ended ≡ t.gone
-    pub ended : (k : ℕ) (e : Ended E) → get_elem? v.desk.ended k ≡ some e → FitsEnded t e
-    pub newest : v.desk.newest ≡ t.newest
-    pub version : v.desk.version ≡ t.version t.newest
-    pub counted : v.desk.counted ≡ t.counted
-    pub clear : v.desk.clear ≡ t.clear
-    pub controls_are : controls M.kind t.log ≡ entries_of v.desk.turns
-    pub known : controls M.kind v.seen ≡ entries_of v.desk.turns
+    pub made : v.admin_view.made ≡ t.made
+    pub retired : length v.admin_view.ended ≡ t.gone
+    pub ended : (k : ℕ) (e : Ended E) → get_elem? v.admin_view.ended k ≡ some e → FitsEnded t e
+    pub newest : v.admin_view.newest ≡ t.newest
+    pub version : v.admin_view.version ≡ t.version t.newest
+    pub counted : v.admin_view.counted ≡ t.counted
+    pub clear : v.admin_view.clear ≡ t.clear
+    pub controls_are : controls M.kind t.log ≡ entries_of v.admin_view.turns
+    pub known : controls M.kind v.seen ≡ entries_of v.admin_view.turns
     pub fixed : v.fixed ≡ Some f
     pub outside : v.rights.pass ≡ Out
-    pub turns : (i : ℕ) (turn : Item E) → get_elem? v.desk.turns i ≡ some turn → IsTurn f turn
-    pub once : AreOnce v.desk.ended
+    pub turns : (i : ℕ) (turn : Item E) → get_elem? v.admin_view.turns i ≡ some turn → IsTurn f turn
+    pub once : AreOnce v.admin_view.ended
 
   -- what a seat knows by what it is: a caller has a number of its own and knows its own entries; the administrator knows what was said above
   abbrev pub FitsRole : Fixed D O → Truth E → ℕ → View E D O → Role → Type 0
@@ -138,7 +138,7 @@ module _ {V E D O : Type 0} (M : Means V E D O) (decides : D → Decisions) wher
   -- the whole rule: there is a truth with which words, slot and views agree.
   -- `first` says that the first view is the administrator's; `passes` has the entry budget, the passes counted, the pass numbers and the clearance; `rows` the cached rows; `tickets` and `place` the turn;
   -- `noticed`, `dated`, `promised` and `place` the value at rest; `each`, `begins`, `promised` and `unmade` the histories seen; `acknowledged` ties the settled and the forced number to the history
-  pub record Kept (k : Terms V D) (s : State (Option V) (View E D O)) : Type 0 where
+  pub record RuleHolds (k : Terms V D) (s : State (Option V) (View E D O)) : Type 0 where
     pub t : Truth E
     pub wide : length s.words ≡ 517
     pub seats : (length s.views ≡ t.made + 1) × (t.made ≤ k.seats) × (k.seats ≤ 64)

@@ -10,7 +10,7 @@ use Rattle.gate_rule.specs.declared.view.Pass.TheVariants.{Out, Inside}
 use Rattle.gate_rule.specs.declared.view.StepDone.{StepDone}
 use Rattle.gate_rule.specs.declared.view.Trace.{Trace}
 use Rattle.gate_rule.specs.declared.view.Item.{Item}
-use Rattle.gate_rule.specs.declared.view.Desk.{Desk}
+use Rattle.gate_rule.specs.declared.view.AdminView.{AdminView}
 use Rattle.gate_rule.specs.declared.view.Fixed.{Fixed}
 use Rattle.gate_rule.specs.declared.view.Key.{Key}
 use Rattle.gate_rule.specs.declared.view.View.{View}
@@ -100,8 +100,8 @@ entries_of [] = []
 entries_of (i ∷ is) = with_entry i.entry (entries_of is)
 
 module _ {E : Type 0} where
-  -- a desk on which nothing was done
-  abbrev pub blank_desk : Desk E
+  -- what an administrator knows before anything was done
+  abbrev pub blank_desk : AdminView E
   blank_desk = record { made = 0; ended = []; newest = 0; version = 0; counted = 0; clear = 0; looked = None; found = 0; left = 0; given = []; turns = [] }
 
 -- the quota of a seat of the gate
@@ -128,13 +128,13 @@ module _ {E D O : Type 0} where
 
   -- the number is one more, with the version that the word left shows; the passes of the new other parity are those entered that were not of the old one
   abbrev pub raised : View E D O → ℕ → ℕ → View E D O
-  raised v n l = record v { trace = traced v.trace (done 0 n l); desk = record v.desk { newest = v.desk.newest + 1; version = version_in l; counted = passes_in n - v.desk.counted } }
+  raised v n l = record v { trace = traced v.trace (done 0 n l); admin_view = record v.admin_view { newest = v.admin_view.newest + 1; version = version_in l; counted = passes_in n - v.admin_view.counted } }
 
   -- the older passes that are out, and the number below which none is left where there is no older one
   abbrev pub counted : View E D O → ℕ → View E D O
   counted v n = record v {
-    trace = traced v.trace (done (leave_word (v.desk.newest + 1)) n n);
-    desk = record v.desk { looked = Some (v.desk.counted - n); clear = cond (v.desk.counted - n == 0) v.desk.newest v.desk.clear };
+    trace = traced v.trace (done (leave_word (v.admin_view.newest + 1)) n n);
+    admin_view = record v.admin_view { looked = Some (v.admin_view.counted - n); clear = cond (v.admin_view.counted - n == 0) v.admin_view.newest v.admin_view.clear };
   }
 
   -- a look at a row: where it shows the key under the pass's number, the key was served
@@ -154,12 +154,12 @@ module _ {E D O : Type 0} where
 
   -- the administrator with one more seat made
   abbrev pub with_seat : View E D O → View E D O
-  with_seat v = record v { desk = record v.desk { made = v.desk.made + 1 } }
+  with_seat v = record v { admin_view = record v.admin_view { made = v.admin_view.made + 1 } }
 
   -- the seat that it made
   abbrev pub new_seat : View E D O → View E D O
   new_seat v = record {
-    role = Caller v.desk.made;
+    role = Caller v.admin_view.made;
     ticket = Without;
     trace = untraced;
     rights = record { pass = Out; quota = quota_in v.fixed };
@@ -167,7 +167,7 @@ module _ {E D O : Type 0} where
     mine = [];
     served = [];
     follows = [];
-    desk = blank_desk;
+    admin_view = blank_desk;
     fixed = v.fixed;
   }
 
@@ -175,7 +175,7 @@ module _ {E D O : Type 0} where
   abbrev pub with_ended : View E D O → View E D O → View E D O
   with_ended v w = record v {
     seen = longer v.seen w.seen;
-    desk = record v.desk { ended = v.desk.ended ++ (record { number = caller_of w.role; entries = w.mine }) ∷ [] };
+    admin_view = record v.admin_view { ended = v.admin_view.ended ++ (record { number = caller_of w.role; entries = w.mine }) ∷ [] };
   }
 
   -- a seat that was given up
@@ -189,7 +189,7 @@ module _ {E D O : Type 0} where
     mine = [];
     served = [];
     follows = [];
-    desk = blank_desk;
+    admin_view = blank_desk;
     fixed = None;
   }
 
@@ -204,7 +204,7 @@ module _ {E D O : Type 0} where
     mine = [];
     served = [];
     follows = [];
-    desk = blank_desk;
+    admin_view = blank_desk;
     fixed = Some f;
   }
 
@@ -222,12 +222,12 @@ module _ {V E D O : Type 0} (M : Means V E D O) where
     trace = traced v.trace (done 4 n n);
     seen = M.history x;
     follows = maps.entries (M.follows x);
-    desk = record v.desk { looked = None; found = length (M.stale x) };
+    admin_view = record v.admin_view { looked = None; found = length (M.stale x) };
   }
 
   -- the item of a turn that ends with this value
   abbrev pub item_of : View E D O → V → Item E
-  item_of v y = record { entry = entry_added v.seen (M.history y); looked = v.desk.looked; found = v.desk.found; left = length (M.stale y) }
+  item_of v y = record { entry = entry_added v.seen (M.history y); looked = v.admin_view.looked; found = v.admin_view.found; left = length (M.stale y) }
 
   -- the turn passed on, with this value
   abbrev pub gave : V → View E D O → ℕ → View E D O
@@ -236,5 +236,5 @@ module _ {V E D O : Type 0} (M : Means V E D O) where
     trace = traced v.trace (done 4 n (one_more n));
     seen = M.history y;
     mine = mine_in v.role v.mine (M.history y);
-    desk = record v.desk { left = length (M.stale y); given = maps.entries (M.follows y); turns = v.desk.turns ++ item_of v y ∷ [] };
+    admin_view = record v.admin_view { left = length (M.stale y); given = maps.entries (M.follows y); turns = v.admin_view.turns ++ item_of v y ∷ [] };
   }

@@ -54,10 +54,10 @@ pub struct Lawful;
 
 impl<V: Journal<D>, D: Decider> TableRule<Option<V>, View<V::Entry, D, V::Opening>, Terms<V, D>>
     for Lawful {
-    ghost use Rattle.gate_rule.specs.Rule.{Kept, fixed_of};
+    ghost use Rattle.gate_rule.specs.Rule.{RuleHolds, fixed_of};
     ghost use Rattle.gate_rule.specs.Views.{first_seat};
 
-    ghost holds = { λ k. Kept V.means D.decides k };
+    ghost holds = { λ k. RuleHolds V.means D.decides k };
 
     ghost first = { λ k. first_seat (fixed_of V.means k) };
 }

@@ -15,4 +15,6 @@ pub use journal::{Journal, Lawful, Place, Terms, Words};
 pub use plays::{
     Count, Draw, Enter, FillRow, Give, Glance, Leave, LookRow, Make, Poll, Raise, Retire, Sought,
 };
-pub use view::{Desk, Ended, Fixed, Item, Key, Pass, Rights, Role, StepDone, Ticket, Trace, View};
+pub use view::{
+    AdminView, Ended, Fixed, Item, Key, Pass, Rights, Role, StepDone, Ticket, Trace, View,
+};

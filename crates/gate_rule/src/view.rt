@@ -65,7 +65,7 @@ pub struct Ended<E> {
 }
 
 /// What the administrator knows.
-pub struct Desk<E> {
+pub struct AdminView<E> {
     /// How many seats it made.
     pub made: u64,
     pub ended: LinkedList<Ended<E>>,
@@ -109,7 +109,7 @@ pub struct View<E, D, O> {
     pub served: LinkedList<Key>,
     /// The policy number that each used slot followed in the value that it took last, with the slot's place.
     pub follows: LinkedList<(u64, u64)>,
-    pub desk: Desk<E>,
+    pub admin_view: AdminView<E>,
     /// `None` once the seat is given up.
     pub fixed: Option<Fixed<D, O>>,
 }

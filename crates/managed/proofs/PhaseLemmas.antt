@@ -11,7 +11,7 @@ use Rattle.manager_history.specs.Passing.{count_at}
 use Rattle.manager_history.specs.declared.entry.Entry.{Entry}
 use Rattle.manager_history.specs.declared.entry.Entry.TheVariants as entry
 use Rattle.access_vectors.specs.Notices.{notice_fault}
-use Rattle.manager_history.specs.Kept.{Kept, ack_answer, is_done}
+use Rattle.manager_history.specs.Kept.{KeeperView, ack_answer, is_done}
 use Rattle.access_vectors.specs.declared.change.NotifyFault.{NotifyFault}
 use Rattle.access_vectors.specs.declared.change.NotifyFault.TheVariants as faults
 use Rattle.manager_history.specs.declared.answers.Ack.{Ack}
@@ -55,11 +55,11 @@ allowed_notice versions most settled old version =
     ] refl
 
 -- a keeper that is as before is in the phase that it was in, and has the history that it had
-pub as_before_phase : {Core Decider Call Reply : Type 0} (old new : Kept Core Decider Call Reply) (said : Result ℕ NotifyFault) → OnErr said (new ≡ old) → OnErr said (new.phase ≡ old.phase)
+pub as_before_phase : {Core Decider Call Reply : Type 0} (old new : KeeperView Core Decider Call Reply) (said : Result ℕ NotifyFault) → OnErr said (new ≡ old) → OnErr said (new.phase ≡ old.phase)
 as_before_phase old new (Ok number) same = tt
 as_before_phase old new (Err fault) same = ap (λ k. k.phase) same
 
-pub as_before_history : {Core Decider Call Reply : Type 0} (old new : Kept Core Decider Call Reply) (said : Result ℕ NotifyFault) → OnErr said (new ≡ old) → OnErr said (new.history ≡ old.history)
+pub as_before_history : {Core Decider Call Reply : Type 0} (old new : KeeperView Core Decider Call Reply) (said : Result ℕ NotifyFault) → OnErr said (new ≡ old) → OnErr said (new.history ≡ old.history)
 as_before_history old new (Ok number) same = tt
 as_before_history old new (Err fault) same = ap (λ k. k.history) same
 

@@ -16,7 +16,7 @@ use Rattle.manager_history.specs.declared.answers.Ack.{Ack}
 use Rattle.access_vectors.specs.declared.change.NotifyFault.{NotifyFault}
 use Rattle.manager_history.specs.declared.entry.Entry.{Entry}
 use Rattle.manager_history.specs.declared.entry.Entry.TheVariants as entry
-use Rattle.managed.specs.Posts.{Post, Stood, IsSameManager, IsSameUntried, post_of, stale_on, older_on, notified, updated, settled_if, shown_after, tries_after, added_by}
+use Rattle.managed.specs.Posts.{Post, ManagerView, IsSameManager, IsSameUntried, post_of, stale_on, older_on, notified, updated, settled_if, shown_after, tries_after, added_by}
 use Rattle.managed.specs.Seen.{Seen, IsOperation, IsGrown, IsNotified, IsUpdated, IsAcknowledged, IsTriedWhere, ShowsOlder, IsSame, event_of, acknowledging, answer_of, settled_follows}
 use Rattle.managed.specs.Administered.{seen_of}
 use Rattle.managed.specs.declared.managed.Shown.{Shown}
@@ -89,23 +89,23 @@ settled_slots p true = refl
 
 module _ {Core Decider Call Reply State : Type 0} (decides : Decider → Decisions) (class : Class) (pair_of : State → ℕ → Option Pair)
     (opening state : Core → State) (follows : Core → Follows) where
-  abbrev seen : Stood Core Decider Call Reply → Seen
+  abbrev seen : ManagerView Core Decider Call Reply → Seen
   seen = seen_of decides class pair_of state follows
 
-  abbrev post : Stood Core Decider Call Reply → Post State
+  abbrev post : ManagerView Core Decider Call Reply → Post State
   post = post_of state follows
 
-  abbrev Stays : Stood Core Decider Call Reply → Stood Core Decider Call Reply → Type 0
+  abbrev Stays : ManagerView Core Decider Call Reply → ManagerView Core Decider Call Reply → Type 0
   Stays = IsSameManager opening
 
-  same_seen : (old new : Stood Core Decider Call Reply) → Stays old new → IsSame (seen old) (seen new)
+  same_seen : (old new : ManagerView Core Decider Call Reply) → Stays old new → IsSame (seen old) (seen new)
   same_seen old new stays = record { manager = stays.manager; most = stays.most; versions = ap (λ d. (decides d).versions) stays.decider }
 
   -- it is the same manager where no change was tried either
-  manager : {old new : Stood Core Decider Call Reply} → IsSameUntried opening old new → Stays old new
+  manager : {old new : ManagerView Core Decider Call Reply} → IsSameUntried opening old new → Stays old new
   manager same = record { opened = same.opened; decider = same.decider; manager = same.manager; most = same.most }
 
-  pub noticed_seen : (old new : Stood Core Decider Call Reply) (said : Result ℕ NotifyFault) (version : ℕ) → IsSameUntried opening old new
+  pub noticed_seen : (old new : ManagerView Core Decider Call Reply) (said : Result ℕ NotifyFault) (version : ℕ) → IsSameUntried opening old new
       → IfErr said (IsRefusal (notice_fault old.keeper.phase (decides old.keeper.decider).versions version old.most))
       → OnOk said (notice_fault old.keeper.phase (decides old.keeper.decider).versions version old.most ≡ None)
       → IfOk said (λ number. number ≡ number_of old.keeper.phase + 1)
@@ -141,7 +141,7 @@ module _ {Core Decider Call Reply State : Type 0} (decides : Decider → Decisio
     stale = refl;
   }
 
-  pub updated_seen : (old new : Stood Core Decider Call Reply) (most left : ℕ) (stale : List ℕ) → Stays old new
+  pub updated_seen : (old new : ManagerView Core Decider Call Reply) (most left : ℕ) (stale : List ℕ) → Stays old new
       → stale ≡ stale_on (decides old.keeper.decider) class pair_of (post old)
       → left ≡ length (drop most stale)
       → post new ≡ updated (post old) stale most
@@ -168,7 +168,7 @@ module _ {Core Decider Call Reply State : Type 0} (decides : Decider → Decisio
         stale = ap (λ d. Some (stale_on (decides d) class pair_of (post new))) stays.decider ∙ ap Some remaining ∙ ap (λ s. Some (drop most s)) stale_is;
       }
 
-  pub acknowledged_seen : (forced : Bool) (old new : Stood Core Decider Call Reply) (said : Ack) → Stays old new
+  pub acknowledged_seen : (forced : Bool) (old new : ManagerView Core Decider Call Reply) (said : Ack) → Stays old new
       → said ≡ ack_answer old.keeper.phase old.keeper.manager (waited forced (older_on (post old))) (length (stale_on (decides old.keeper.decider) class pair_of (post old)))
       → post new ≡ settled_if (post old) (is_done said)
       → new.shown ≡ shown_after old.keeper.phase old.shown (waited forced (older_on (post old))) (length (stale_on (decides old.keeper.decider) class pair_of (post old)))

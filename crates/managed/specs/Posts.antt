@@ -12,7 +12,7 @@ use Rattle.access_vectors.specs.declared.phase.Phase.{Phase}
 use Rattle.access_vectors.specs.declared.phase.Phase.TheVariants.{Settled, Pending}
 use Rattle.manager_history.specs.Answers.{Answer, Manager}
 use Rattle.manager_history.specs.Histories.{said_at, entry_at, acknowledgement}
-use Rattle.manager_history.specs.Kept.{Kept}
+use Rattle.manager_history.specs.Kept.{KeeperView}
 use Rattle.manager_history.specs.Passing.{pass_of, count_at}
 use Rattle.manager_history.specs.declared.answers.Ack.{Ack}
 use Rattle.manager_history.specs.declared.answers.Ack.TheVariants as acks
@@ -166,27 +166,27 @@ AreNamed phase forced (one ∷ held) = IsNamed phase forced one × AreNamed phas
 
 -- what contracts see of a manager on one thread: its keeper, the held passes by client, the last policy number that may be
 -- made, how many tries of a change there were, and what the last one showed
-pub record Stood (Core Decider Call Reply : Type 0) : Type 0 where
-  pub keeper : Kept Core Decider Call Reply
+pub record ManagerView (Core Decider Call Reply : Type 0) : Type 0 where
+  pub keeper : KeeperView Core Decider Call Reply
   pub held : List (Option ℕ)
   pub most : ℕ
   pub tries : ℕ
   pub shown : Shown
 
 -- where it stands, by what its core means
-abbrev pub post_of : {Core Decider Call Reply State : Type 0} → (Core → State) → (Core → Follows) → Stood Core Decider Call Reply → Post State
+abbrev pub post_of : {Core Decider Call Reply State : Type 0} → (Core → State) → (Core → Follows) → ManagerView Core Decider Call Reply → Post State
 post_of state follows stood =
     record { state = state stood.keeper.core; follows = follows stood.keeper.core; phase = stood.keeper.phase; held = stood.held }
 
 -- it is the same manager: its opening, its decider, its number and the last policy number that may be made stay
-pub record IsSameManager {Core Decider Call Reply State : Type 0} (opening : Core → State) (old new : Stood Core Decider Call Reply) : Type 0 where
+pub record IsSameManager {Core Decider Call Reply State : Type 0} (opening : Core → State) (old new : ManagerView Core Decider Call Reply) : Type 0 where
   pub opened : opening new.keeper.core ≡ opening old.keeper.core
   pub decider : new.keeper.decider ≡ old.keeper.decider
   pub manager : new.keeper.manager ≡ old.keeper.manager
   pub most : new.most ≡ old.most
 
 -- it is the same manager, at which no change was tried
-pub record IsSameUntried {Core Decider Call Reply State : Type 0} (opening : Core → State) (old new : Stood Core Decider Call Reply) : Type 0 where
+pub record IsSameUntried {Core Decider Call Reply State : Type 0} (opening : Core → State) (old new : ManagerView Core Decider Call Reply) : Type 0 where
   pub opened : opening new.keeper.core ≡ opening old.keeper.core
   pub decider : new.keeper.decider ≡ old.keeper.decider
   pub manager : new.keeper.manager ≡ old.keeper.manager

@@ -17,7 +17,7 @@ use std::marker::{Brand, Model};
 use std::sync::ledger::{Blank, Ledger};
 
 /// A manager on one thread: its keeper, the passes that its clients hold, and what the last try of a change showed. Contracts
-/// see a record `Stood`.
+/// see a record `ManagerView`.
 #[derive(Drop)]
 pub struct Plain<'d, C: Core, D: Decider> {
     keeper: Keeper<'d, C, D>,
@@ -31,9 +31,9 @@ impl<'d, C: Core, D: Decider> Model for Plain<'d, C, D> {
     ghost use Rattle.std.specs.Prelude.{◌≡◌, ◌≤◌};
     ghost use Rattle.access_vectors.specs.Phases.{number_of, AreVersions};
     ghost use Rattle.manager_history.specs.Histories.{greatest_forced};
-    ghost use Rattle.managed.specs.Posts.{Stood, AreNamed};
+    ghost use Rattle.managed.specs.Posts.{ManagerView, AreNamed};
 
-    ghost Value = { Stood C D C.Call C.Reply };
+    ghost Value = { ManagerView C D C.Call C.Reply };
 
     ghost view = { λ plain. record {
       keeper = plain.keeper;

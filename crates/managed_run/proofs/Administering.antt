@@ -23,7 +23,7 @@ use Rattle.managed.specs.declared.managed.Event.TheVariants as event
 use Rattle.managed.specs.declared.managed.Shown.{Shown as Showing}
 use Rattle.gate_rule.specs.declared.view.Item.{Item}
 use Rattle.gate_rule.specs.History.{is_control, controls, phase_after}
-use Rattle.epoch_gate.specs.Seats.{Shown}
+use Rattle.epoch_gate.specs.Seats.{SeatView}
 use Rattle.epoch_gate.specs.Known.{seen_by, turns_had, stale_found, stale_left}
 use Rattle.managed_run.specs.declared.docket.Opened.{Opened}
 use Rattle.managed_run.specs.Kinds.{kind_of, phase_of}
@@ -76,7 +76,7 @@ module _ {Call Reply : Type 0} where
     pub none : controls kind_of rest ≡ []
 
   module _ {D O : Type 0} where
-    pub between : (before : List (Entry Call Reply)) (a b : Shown (Entry Call Reply) D O) → HasFound before a b → Between (seen_by a) before
+    pub between : (before : List (Entry Call Reply)) (a b : SeatView (Entry Call Reply) D O) → HasFound before a b → Between (seen_by a) before
     between before a b found = record {
       rest = found.begins.0;
       grown = found.begins.1;
@@ -189,18 +189,18 @@ module _ {Core D Call Reply : Type 0} (decides : D → Decisions) where
         stale = refl;
       }
 
-  looked_is : (p : Bool) (older : ℕ) (looked : Option ℕ) (a b : Shown (Entry Call Reply) D (Opened Core)) → HasCounted p older looked a b → older ≡ or_none looked
+  looked_is : (p : Bool) (older : ℕ) (looked : Option ℕ) (a b : SeatView (Entry Call Reply) D (Opened Core)) → HasCounted p older looked a b → older ≡ or_none looked
   looked_is true older looked a b h = sym (ap or_none h.0)
   looked_is false older looked a b h = h.1 ∙ sym (ap or_none h.0)
 
-  none_looked : (older : ℕ) (looked : Option ℕ) (pending : Bool) (a b : Shown (Entry Call Reply) D (Opened Core)) → HasCounted (counts_passes pending true) older looked a b → looked ≡ None
+  none_looked : (older : ℕ) (looked : Option ℕ) (pending : Bool) (a b : SeatView (Entry Call Reply) D (Opened Core)) → HasCounted (counts_passes pending true) older looked a b → looked ≡ None
   none_looked older looked pending a b h = h.0
 
-  looked_some : (p : Bool) (older : ℕ) (looked : Option ℕ) (a b : Shown (Entry Call Reply) D (Opened Core)) → p ≡ true → HasCounted p older looked a b → looked ≡ Some older
+  looked_some : (p : Bool) (older : ℕ) (looked : Option ℕ) (a b : SeatView (Entry Call Reply) D (Opened Core)) → p ≡ true → HasCounted p older looked a b → looked ≡ Some older
   looked_some true older looked a b is h = h.0
   looked_some false older looked a b is h = absurd (cc)
 
-  none_older : (older : ℕ) (looked : Option ℕ) (pending : Bool) (a b : Shown (Entry Call Reply) D (Opened Core)) → HasCounted (counts_passes pending true) older looked a b → older ≡ 0
+  none_older : (older : ℕ) (looked : Option ℕ) (pending : Bool) (a b : SeatView (Entry Call Reply) D (Opened Core)) → HasCounted (counts_passes pending true) older looked a b → older ≡ 0
   none_older older looked pending a b h = h.1
 
   module _ (forced : Bool) (old new : Holding Core D Call Reply) (said : Ack) (told : HasAcknowledged forced old.site.fixed.opening.manager said old.admin new.admin) where

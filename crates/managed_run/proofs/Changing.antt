@@ -13,14 +13,14 @@ use Rattle.manager_history.specs.declared.entry.Entry.TheVariants as entry
 use Rattle.manager_history.specs.declared.answers.Ack.{Ack}
 use Rattle.manager_history.specs.declared.answers.Ack.TheVariants as acks
 use Rattle.manager_history.specs.Histories.{acknowledgement}
-use Rattle.manager_history.specs.Kept.{Kept, ack_answer, is_done}
+use Rattle.manager_history.specs.Kept.{KeeperView, ack_answer, is_done}
 use Rattle.gate_rule.specs.declared.view.StepDone.{StepDone}
 use Rattle.gate_rule.specs.declared.view.View.{View}
 use Rattle.gate_rule.specs.History.{last_notice, Alternates}
 use Rattle.gate_rule.specs.History.Kind.{Notice as ANotice, Ack as AnAck}
 use Rattle.gate_rule.specs.Views.{leave_word, done, entry_added}
 use Rattle.gate_rule.proofs.Histories.{nothing_added, one_added, notice_more}
-use Rattle.epoch_gate.specs.Seats.{Shown}
+use Rattle.epoch_gate.specs.Seats.{SeatView}
 use Rattle.epoch_gate.specs.Known.{seen_by, seats_made, seats_retired, current_number, current_version, passes_counted, cleared_below, older_shown, stale_found, stale_left, slots_given, turns_had}
 use Rattle.epoch_gate.specs.Calls.{ExtendsAsAdmin}
 use Rattle.managed_run.specs.Kinds.{kind_of, phase_of}
@@ -61,13 +61,13 @@ load_is e l word word' same is at = same ∙ (is ∙ (λ i. done (at i) ((sym sa
 
 module _ {Core Decider Call Reply : Type 0} where
   -- what a history became by an acknowledgement, done or not
-  pub grown_if : (answer : Ack) (old new : Kept Core Decider Call Reply) (e : Entry Call Reply) → (IsTrue (is_done answer) → new.history ≡ old.history ++ e ∷ []) → (is_done answer ≡ false → new ≡ old)
+  pub grown_if : (answer : Ack) (old new : KeeperView Core Decider Call Reply) (e : Entry Call Reply) → (IsTrue (is_done answer) → new.history ≡ old.history ++ e ∷ []) → (is_done answer ≡ false → new ≡ old)
       → new.history ≡ old.history ++ entries_if (is_done answer) e
   grown_if answer old new e added same = go (is_done answer) added same
     where
       go : (b : Bool) → (IsTrue b → new.history ≡ old.history ++ e ∷ []) → (b ≡ false → new ≡ old) → new.history ≡ old.history ++ entries_if b e
       go true added' same' = added' refl
-      go false added' same' = ap (λ (k : Kept Core Decider Call Reply). k.history) (same' refl) ∙ sym (append-nil old.history)
+      go false added' same' = ap (λ (k : KeeperView Core Decider Call Reply). k.history) (same' refl) ∙ sym (append-nil old.history)
 
 module _ {Call Reply : Type 0} where
   -- the entry of an item
@@ -77,11 +77,11 @@ module _ {Call Reply : Type 0} where
 
   module _ {D O : Type 0} where
     -- a history that stayed may be given back
-    pub extends_same : (x : Shown (Entry Call Reply) D O) (log log' : List (Entry Call Reply)) → log' ≡ log → seen_by x ≡ log → last_notice kind_of log ≡ (current_number x, current_version x) → ExtendsAsAdmin kind_of x log'
+    pub extends_same : (x : SeatView (Entry Call Reply) D O) (log log' : List (Entry Call Reply)) → log' ≡ log → seen_by x ≡ log → last_notice kind_of log ≡ (current_number x, current_version x) → ExtendsAsAdmin kind_of x log'
     extends_same x log log' same seen last = (inl (same ∙ sym seen), ap (last_notice kind_of) same ∙ last)
 
     -- and so may one that grew by the notice of the number that was raised
-    pub extends_notice : (x : Shown (Entry Call Reply) D O) (log log' : List (Entry Call Reply)) (number version : ℕ) → log' ≡ log ++ entry.Notice number version ∷ [] → seen_by x ≡ log → number ≡ current_number x → version ≡ current_version x
+    pub extends_notice : (x : SeatView (Entry Call Reply) D O) (log log' : List (Entry Call Reply)) (number version : ℕ) → log' ≡ log ++ entry.Notice number version ∷ [] → seen_by x ≡ log → number ≡ current_number x → version ≡ current_version x
         → ExtendsAsAdmin kind_of x log'
     extends_notice x log log' number version more seen same at = (
       inr (entry.Notice number version, more ∙ ap (λ (l : List (Entry Call Reply)). l ++ entry.Notice number version ∷ []) (sym seen), inl (λ i. ANotice (same i) (at i))),
@@ -89,7 +89,7 @@ module _ {Call Reply : Type 0} where
     )
 
     -- and one that an acknowledgement left
-    pub extends_ack : (b forced : Bool) (x : Shown (Entry Call Reply) D O) (log log' : List (Entry Call Reply)) (number : ℕ) → log' ≡ log ++ entries_if b (acknowledgement forced number) → seen_by x ≡ log
+    pub extends_ack : (b forced : Bool) (x : SeatView (Entry Call Reply) D O) (log log' : List (Entry Call Reply)) (number : ℕ) → log' ≡ log ++ entries_if b (acknowledgement forced number) → seen_by x ≡ log
         → last_notice kind_of log ≡ (current_number x, current_version x) → number ≡ current_number x → (b ≡ true → forced ≡ false → cleared_below x ≡ current_number x) → ExtendsAsAdmin kind_of x log'
     extends_ack false forced x log log' number more seen last same cleared = extends_same x log log' (more ∙ append-nil log) seen last
     extends_ack true forced x log log' number more seen last same cleared = go forced more (cleared refl)
@@ -105,13 +105,13 @@ module _ {Call Reply : Type 0} where
         )
 
     -- the item of a turn, with its parts as they are known
-    pub turned : (a x b : Shown (Entry Call Reply) D O) (log : List (Entry Call Reply)) (l : ℕ) (added : Option (Entry Call Reply)) (looked : Option ℕ)
-        → turns_had b ≡ turns_had x ++ (record { entry = entry_added x.view.seen log; looked = x.view.desk.looked; found = x.view.desk.found; left = l }) ∷ []
+    pub turned : (a x b : SeatView (Entry Call Reply) D O) (log : List (Entry Call Reply)) (l : ℕ) (added : Option (Entry Call Reply)) (looked : Option ℕ)
+        → turns_had b ≡ turns_had x ++ (record { entry = entry_added x.view.seen log; looked = x.view.admin_view.looked; found = x.view.admin_view.found; left = l }) ∷ []
         → turns_had x ≡ turns_had a → entry_added (seen_by x) log ≡ added → older_shown x ≡ looked → stale_found b ≡ stale_found x → stale_left b ≡ l → HasTurned added looked a b
     turned a x b log l added looked gave same entry_is looked_is found left = gave ∙ (λ i. same i ++ (record { entry = entry_is i; looked = looked_is i; found = sym found i; left = sym left i }) ∷ [])
 
     -- what counting showed, said of the administrator before the turn and after it
-    pub counted_by : (p : Bool) (older : ℕ) (a w x b : Shown (Entry Call Reply) D O) → HasLooked p older w x → older_shown w ≡ None → current_number w ≡ current_number a → passes_counted w ≡ passes_counted a
+    pub counted_by : (p : Bool) (older : ℕ) (a w x b : SeatView (Entry Call Reply) D O) → HasLooked p older w x → older_shown w ≡ None → current_number w ≡ current_number a → passes_counted w ≡ passes_counted a
         → seats_made w ≡ seats_made a → seats_retired w ≡ seats_retired a → b.view.trace.earlier ≡ x.view.trace.last → HasCounted p older (older_shown x) a b
     counted_by true older a w x b h none number passes made retired trace = (
       h.2,
@@ -119,10 +119,10 @@ module _ {Call Reply : Type 0} where
       ap (λ (s : StepDone). older + s.found) trace ∙ (h.1 ∙ passes),
       subst (λ (n : ℕ). older + length (seats_retired a) ≤ n) made (subst (λ (l : _). older + length l ≤ seats_made w) retired h.4),
     )
-    counted_by false older a w x b h none number passes made retired trace = (ap (λ (s : Shown (Entry Call Reply) D O). older_shown s) h.1 ∙ none, h.0)
+    counted_by false older a w x b h none number passes made retired trace = (ap (λ (s : SeatView (Entry Call Reply) D O). older_shown s) h.1 ∙ none, h.0)
 
     -- where one that counts is done, nothing older is left
-    pub cleared_by : (p : Bool) (older : ℕ) (w x : Shown (Entry Call Reply) D O) → HasLooked p older w x → p ≡ true → older ≡ 0 → cleared_below x ≡ current_number w
+    pub cleared_by : (p : Bool) (older : ℕ) (w x : SeatView (Entry Call Reply) D O) → HasLooked p older w x → p ≡ true → older ≡ 0 → cleared_below x ≡ current_number w
     cleared_by true older w x h is none = h.3 none
     cleared_by false older w x h is none = absurd (cc)
 
@@ -134,7 +134,7 @@ last_ack true false log log' number more = ap (last_notice kind_of) more ∙ not
 
 module _ {Call Reply D O : Type 0} where
   -- the current number is the newest of the history given back
-  pub current_is : (versions : ℕ) (log : List (Entry Call Reply)) → Alternates kind_of versions 0 0 log → (b : Shown (Entry Call Reply) D O) → seen_by b ≡ log
+  pub current_is : (versions : ℕ) (log : List (Entry Call Reply)) → Alternates kind_of versions 0 0 log → (b : SeatView (Entry Call Reply) D O) → seen_by b ≡ log
       → last_notice kind_of log ≡ (current_number b, current_version b) → IsCurrent b
   current_is versions log alternates b seen last = record {
     number = sym (ap (λ (p : ℕ × ℕ). p.0) last) ∙ (newest_is kind_of versions log alternates ∙ ap (λ (l : List (Entry Call Reply)). number_of (phase_of l)) (sym seen));
@@ -142,12 +142,12 @@ module _ {Call Reply D O : Type 0} where
   }
 
   -- where no seat is made no older pass is counted
-  pub none_counted : (p : Bool) (older : ℕ) (looked : Option ℕ) (a b : Shown (Entry Call Reply) D O) → HasCounted p older looked a b → seats_made a ≡ 0 → or_none looked ≡ 0
+  pub none_counted : (p : Bool) (older : ℕ) (looked : Option ℕ) (a b : SeatView (Entry Call Reply) D O) → HasCounted p older looked a b → seats_made a ≡ 0 → or_none looked ≡ 0
   none_counted true older looked a b h none = ap or_none h.0 ∙ (let few = h.3 in omega (arith, few, none))
   none_counted false older looked a b h none = ap or_none h.0
 
   -- one more turn that is clear
-  pub stays_clear : (added : Option (Entry Call Reply)) (looked : Option ℕ) (a b : Shown (Entry Call Reply) D O) → HasTurned added looked a b → (seats_made a ≡ 0 → stale_found b ≡ 0) → (seats_made a ≡ 0 → or_none looked ≡ 0) → StaysClear a b
+  pub stays_clear : (added : Option (Entry Call Reply)) (looked : Option ℕ) (a b : SeatView (Entry Call Reply) D O) → HasTurned added looked a b → (seats_made a ≡ 0 → stale_found b ≡ 0) → (seats_made a ≡ 0 → or_none looked ≡ 0) → StaysClear a b
   stays_clear added looked a b turn found older = λ none clear.
       subst (All IsClear) (sym turn) (All-push IsClear (turns_had a) (record { entry = added; looked = looked; found = stale_found b; left = stale_left b }) clear (record { found = found none; older = older none }))
 
@@ -170,13 +170,13 @@ receipt_is (Pending number old new) manager older stale receipt is = go (nat_lt 
     go false false same = let one : receipt ≡ record { manager = manager; number = number } = cc in (ap (λ (r : Receipt). r.manager) one, sym (ap (λ (r : Receipt). r.number) one))
 
 module _ {Call Reply D O : Type 0} where
-  looked_by : (forced pending : Bool) (older : ℕ) (looked : Option ℕ) (a b : Shown (Entry Call Reply) D O) → HasCounted (counts_passes pending forced) older looked a b → pending ≡ true → older ≡ 0 → looked ≡ (if forced then None else Some 0)
+  looked_by : (forced pending : Bool) (older : ℕ) (looked : Option ℕ) (a b : SeatView (Entry Call Reply) D O) → HasCounted (counts_passes pending forced) older looked a b → pending ≡ true → older ≡ 0 → looked ≡ (if forced then None else Some 0)
   looked_by true pending older looked a b h is none = h.0
   looked_by false true older looked a b h is none = h.0 ∙ ap (λ (n : ℕ). Some n) none
   looked_by false false older looked a b h is none = absurd (cc)
 
   -- what is known where it is done
-  pub settled_of : (forced : Bool) (manager : ℕ) (answer : Ack) (a b : Shown (Entry Call Reply) D O) → HasAcknowledged forced manager answer a b → IsSettled forced manager answer a b
+  pub settled_of : (forced : Bool) (manager : ℕ) (answer : Ack) (a b : SeatView (Entry Call Reply) D O) → HasAcknowledged forced manager answer a b → IsSettled forced manager answer a b
   settled_of forced manager (acks.Busy older) a b told = tt
   settled_of forced manager (acks.Behind left) a b told = tt
   settled_of forced manager acks.Idle a b told = tt

@@ -18,12 +18,12 @@ use Rattle.manager_history.specs.declared.entry.Entry.TheVariants as entry
 use Rattle.manager_history.specs.Answers.{Manager}
 use Rattle.manager_history.specs.Histories.{Moment, moment, start_of, replay, greatest_forced, answer_at, entry_at, operation, IsLawful}
 use Rattle.manager_history.specs.declared.answers.Ack.{Ack}
-use Rattle.manager_history.specs.Kept.{Kept, stale_in, is_done}
+use Rattle.manager_history.specs.Kept.{KeeperView, stale_in, is_done}
 use Rattle.gate_rule.specs.History.{is_by, of_caller, StartsWith}
 use Rattle.gate_rule.specs.History.Kind.{Call as ACall}
 use Rattle.gate_rule.proofs.Histories.{of_caller_own, of_caller_other}
 use Rattle.gate_rule.specs.Told.{LearnsAdmin}
-use Rattle.epoch_gate.specs.Seats.{Shown}
+use Rattle.epoch_gate.specs.Seats.{SeatView}
 use Rattle.epoch_gate.specs.Known.{seen_by, stale_found}
 use Rattle.std.proofs.lemmas.List.Elements.{All-nil, All-cons}
 use Rattle.managed_run.specs.Changes.{HasFound, AllFollow}
@@ -40,7 +40,7 @@ promised plain formed decides d d' o o' log same opened lawful =
 module _ {Core Decider Call Reply State : Type 0} (plain : Manager Call Reply State) (d : Decisions) (class : Class)
     (pair_of : State → ℕ → Option Pair) (opening state : Core → State) (follows : Core → Follows) (stale : Core → List ℕ) where
   -- what the keeper's own reader tells of it
-  pub from_entries : (first : Core) (now : Kept Core Decider Call Reply) → opening now.core ≡ opening first
+  pub from_entries : (first : Core) (now : KeeperView Core Decider Call Reply) → opening now.core ≡ opening first
       → replay plain d (start_of (opening now.core)) now.history ≡ moment (state now.core) now.phase (greatest_forced now.history)
       → stale now.core ≡ stale_in d class pair_of state follows now → AreNamed now.phase (follows now.core)
       → (IsUncalled now.history → maps.entries (follows now.core) ≡ [])
@@ -81,12 +81,12 @@ module _ {Call Reply : Type 0} where
 
   module _ {Core Decider : Type 0} (follows : Core → Follows) where
     -- after a call, done or wanting memory, no slot is used where no caller has called
-    pub unused_either : {R : Type 0} (r : Result R Memory) (old new : Kept Core Decider Call Reply) (e : Entry Call Reply) (n mark number : ℕ) → kind_of e ≡ ACall n mark number
+    pub unused_either : {R : Type 0} (r : Result R Memory) (old new : KeeperView Core Decider Call Reply) (e : Entry Call Reply) (n mark number : ℕ) → kind_of e ≡ ACall n mark number
         → OnOk r (new.history ≡ old.history ++ e ∷ []) → OnErr r (new ≡ old)
         → (IsUncalled old.history → maps.entries (follows old.core) ≡ []) → IsUncalled new.history → maps.entries (follows new.core) ≡ []
     unused_either (Ok x) old new e n mark number is added same unused none = absurd (called old.history new.history e n mark number is added none)
     unused_either (Err x) old new e n mark number is added same unused none =
-        ap (λ (k : Kept Core Decider Call Reply). maps.entries (follows k.core)) same ∙ unused (subst (λ (k : Kept Core Decider Call Reply). IsUncalled k.history) same none)
+        ap (λ (k : KeeperView Core Decider Call Reply). maps.entries (follows k.core)) same ∙ unused (subst (λ (k : KeeperView Core Decider Call Reply). IsUncalled k.history) same none)
 
 -- a map with no entries has none after each value was replaced
 pub unused_mapped : (f : ℕ → ℕ → ℕ) (m : Follows) → maps.entries m ≡ [] → maps.entries (mapped f m) ≡ []
@@ -116,8 +116,8 @@ settled_stale d class (Pending number old new) pair_of follows is = absurd (cc)
 module _ {Core Decider Call Reply State D O : Type 0} (plain : Manager Call Reply State) (d : Decisions) (class : Class)
     (pair_of : State → ℕ → Option Pair) (opening state : Core → State) (follows : Core → Follows) (stale : Core → List ℕ) where
   -- what a turn of the administrator found
-  pub found_by : (first : Core) (now : Kept Core Decider Call Reply) → IsFrom plain d class pair_of opening state follows stale first now → (a b : Shown (Entry Call Reply) D O)
-      → StartsWith now.history (seen_by a) × LearnsAdmin kind_of a.view.desk (seen_by a) now.history → stale_found b ≡ length (stale now.core) → HasFound now.history a b
+  pub found_by : (first : Core) (now : KeeperView Core Decider Call Reply) → IsFrom plain d class pair_of opening state follows stale first now → (a b : SeatView (Entry Call Reply) D O)
+      → StartsWith now.history (seen_by a) × LearnsAdmin kind_of a.view.admin_view (seen_by a) now.history → stale_found b ≡ length (stale now.core) → HasFound now.history a b
   found_by first now from a b learns found = record {
     begins = learns.0;
     changes = learns.1.controls_are;
@@ -128,20 +128,20 @@ module _ {Core Decider Call Reply State D O : Type 0} (plain : Manager Call Repl
 
 module _ {Core Decider Call Reply : Type 0} where
   -- after an acknowledgement, done or not, no slot is used where no caller has called
-  pub unused_ack : (follows : Core → Follows) (answer : Ack) (old new : Kept Core Decider Call Reply) (number : ℕ) (e : Entry Call Reply) → ((n : ℕ) → is_by n (kind_of e) ≡ false)
+  pub unused_ack : (follows : Core → Follows) (answer : Ack) (old new : KeeperView Core Decider Call Reply) (number : ℕ) (e : Entry Call Reply) → ((n : ℕ) → is_by n (kind_of e) ≡ false)
       → (IsTrue (is_done answer) → new.history ≡ old.history ++ e ∷ []) → (is_done answer ≡ false → new ≡ old) → (IsTrue (is_done answer) → follows new.core ≡ all_following number (follows old.core))
       → (IsUncalled old.history → maps.entries (follows old.core) ≡ []) → IsUncalled new.history → maps.entries (follows new.core) ≡ []
   unused_ack follows answer old new number e other added same settled unused none = go (is_done answer) added same settled
     where
       go : (b : Bool) → (IsTrue b → new.history ≡ old.history ++ e ∷ []) → (b ≡ false → new ≡ old) → (IsTrue b → follows new.core ≡ all_following number (follows old.core)) → maps.entries (follows new.core) ≡ []
       go true added' same' settled' = ap maps.entries (settled' refl) ∙ unused_mapped _ (follows old.core) (unused (uncalled_before old.history new.history e other (added' refl) none))
-      go false added' same' settled' = ap (λ (k : Kept Core Decider Call Reply). maps.entries (follows k.core)) (same' refl) ∙ unused (subst (λ (k : Kept Core Decider Call Reply). IsUncalled k.history) (same' refl) none)
+      go false added' same' settled' = ap (λ (k : KeeperView Core Decider Call Reply). maps.entries (follows k.core)) (same' refl) ∙ unused (subst (λ (k : KeeperView Core Decider Call Reply). IsUncalled k.history) (same' refl) none)
 
   -- an acknowledgement leaves as many slots stale as were
-  pub left_is : (stale : Core → List ℕ) (answer : Ack) (old new : Kept Core Decider Call Reply) → (is_done answer ≡ false → new ≡ old) → (is_done answer ≡ true → stale new.core ≡ []) → (is_done answer ≡ true → length (stale old.core) ≡ 0)
+  pub left_is : (stale : Core → List ℕ) (answer : Ack) (old new : KeeperView Core Decider Call Reply) → (is_done answer ≡ false → new ≡ old) → (is_done answer ≡ true → stale new.core ≡ []) → (is_done answer ≡ true → length (stale old.core) ≡ 0)
       → length (stale new.core) ≡ length (stale old.core)
   left_is stale answer old new same none found = go (is_done answer) same none found
     where
       go : (b : Bool) → (b ≡ false → new ≡ old) → (b ≡ true → stale new.core ≡ []) → (b ≡ true → length (stale old.core) ≡ 0) → length (stale new.core) ≡ length (stale old.core)
       go true same' none' found' = ap length (none' refl) ∙ sym (found' refl)
-      go false same' none' found' = ap (λ (k : Kept Core Decider Call Reply). length (stale k.core)) (same' refl)
+      go false same' none' found' = ap (λ (k : KeeperView Core Decider Call Reply). length (stale k.core)) (same' refl)

@@ -15,7 +15,7 @@ use Rattle.manager_history.specs.declared.answers.Answer.{Answer as Said}
 use Rattle.manager_history.specs.declared.answers.Answer.TheVariants as saying
 use Rattle.manager_history.specs.Answers.{Answer, Manager}
 use Rattle.manager_history.specs.Histories.{answer_at, said_at, entry_at, operation}
-use Rattle.manager_history.specs.Kept.{Kept}
+use Rattle.manager_history.specs.Kept.{KeeperView}
 use Rattle.managed.specs.Posts.{last_asked}
 use Rattle.managed.proofs.AskedLemmas.{last_added}
 use Rattle.gate_rule.specs.declared.view.Role.TheVariants.{Caller}
@@ -29,7 +29,7 @@ use Rattle.gate_rule.specs.Told.{Grows}
 use Rattle.gate_rule.specs.Tickets.{word_of}
 use Rattle.gate_rule.specs.Views.{caller_of, one_more, done, traced, entry_added}
 use Rattle.gate_rule.proofs.Histories.{of_caller_own}
-use Rattle.epoch_gate.specs.Seats.{Shown}
+use Rattle.epoch_gate.specs.Seats.{SeatView}
 use Rattle.epoch_gate.specs.Known.{seen_by, own_entries, caller_number, pass_held, pass_number, keys_served, slots_followed, turns_had, found_last}
 use Rattle.epoch_gate.specs.Calls.{HasWaited, HasHadTurn}
 use Rattle.avc_rows.specs.Checks.{as_asked}
@@ -38,19 +38,19 @@ use Rattle.managed_run.specs.Calls.{HasAdded, HasAnswered, HasAddedNone, operati
 
 module _ {Call Reply D O : Type 0} where
   -- a history that grew by the seat's own entry, or for want of memory stayed, may be given back
-  pub extends_either : {Core Decider R : Type 0} (r : Result R Memory) (w : Shown (Entry Call Reply) D O) (old new : Kept Core Decider Call Reply) (e : Entry Call Reply) (n mark number version : ℕ)
+  pub extends_either : {Core Decider R : Type 0} (r : Result R Memory) (w : SeatView (Entry Call Reply) D O) (old new : KeeperView Core Decider Call Reply) (e : Entry Call Reply) (n mark number version : ℕ)
       → kind_of e ≡ ACall n mark number → OnOk r (new.history ≡ old.history ++ e ∷ []) → OnErr r (new ≡ old) → seen_by w ≡ old.history → w.view.role ≡ Caller n → pass_held w ≡ Inside number version
       → Grows kind_of w.view (Caller (caller_number w)) new.history
   extends_either (Ok x) w old new e n mark number version is added same seen role pass =
       inr (e, added ∙ ap (λ (l : List (Entry Call Reply)). l ++ e ∷ []) (sym seen), (mark, number, version, pass, is ∙ ap (λ (c : ℕ). ACall c mark number) (sym (ap caller_of role))))
-  extends_either {Core} {Decider} (Err x) w old new e n mark number version is added same seen role pass = inl (ap (λ (k : Kept Core Decider Call Reply). k.history) same ∙ sym seen)
+  extends_either {Core} {Decider} (Err x) w old new e n mark number version is added same seen role pass = inl (ap (λ (k : KeeperView Core Decider Call Reply). k.history) same ∙ sym seen)
 
   -- the turn of a call: drawn, waited for, and passed on once
-  pub had_turn : (s w x t : Shown (Entry Call Reply) D O) (log : List (Entry Call Reply)) (l : ℕ) → HasWaited s w → turns_had w ≡ turns_had s → turns_had x ≡ turns_had w
-      → turns_had t ≡ turns_had x ++ (record { entry = entry_added x.view.seen log; looked = x.view.desk.looked; found = x.view.desk.found; left = l }) ∷ []
+  pub had_turn : (s w x t : SeatView (Entry Call Reply) D O) (log : List (Entry Call Reply)) (l : ℕ) → HasWaited s w → turns_had w ≡ turns_had s → turns_had x ≡ turns_had w
+      → turns_had t ≡ turns_had x ++ (record { entry = entry_added x.view.seen log; looked = x.view.admin_view.looked; found = x.view.admin_view.found; left = l }) ∷ []
       → t.view.trace ≡ traced x.view.trace (done 4 (found_last t) (one_more (found_last t))) → HasHadTurn s t
   had_turn s w x t log l waited took asked gave trace =
-      let item : Item (Entry Call Reply) = record { entry = entry_added x.view.seen log; looked = x.view.desk.looked; found = x.view.desk.found; left = l } in record {
+      let item : Item (Entry Call Reply) = record { entry = entry_added x.view.seen log; looked = x.view.admin_view.looked; found = x.view.admin_view.found; left = l } in record {
         ticket = word_of w.view.ticket;
         taken = w.view.trace;
         waited = waited;
@@ -60,7 +60,7 @@ module _ {Call Reply D O : Type 0} where
       }
 
   -- nothing was added
-  pub added_none : (s t : Shown (Entry Call Reply) D O) (log log' : List (Entry Call Reply)) (n : ℕ) → StartsWith log (seen_by s) → log' ≡ log → seen_by t ≡ log'
+  pub added_none : (s t : SeatView (Entry Call Reply) D O) (log log' : List (Entry Call Reply)) (n : ℕ) → StartsWith log (seen_by s) → log' ≡ log → seen_by t ≡ log'
       → own_entries s ≡ of_caller kind_of n log → own_entries t ≡ of_caller kind_of n log' → HasAddedNone s t
   added_none s t log log' n begins same seen own own' = record {
     begins = subst (λ (l : List (Entry Call Reply)). StartsWith l (seen_by s)) (sym (seen ∙ same)) begins;
@@ -89,7 +89,7 @@ module _ {Call Reply State : Type 0} (plain : Manager Call Reply State) (d : Dec
       go true is = rw (is, last_added log (entry_if true)) refl
       go false is = rw (is, last_added log (entry_if false)) refl
 
-  module _ {D O : Type 0} (use_of : ℕ → Call → Option ℕ) (s t : Shown (Entry Call Reply) D O) (log log' : List (Entry Call Reply)) (begins : StartsWith log (seen_by s)) (phase_is : phase ≡ phase_of log) (seen : seen_by t ≡ log')
+  module _ {D O : Type 0} (use_of : ℕ → Call → Option ℕ) (s t : SeatView (Entry Call Reply) D O) (log log' : List (Entry Call Reply)) (begins : StartsWith log (seen_by s)) (phase_is : phase ≡ phase_of log) (seen : seen_by t ≡ log')
       (own : own_entries s ≡ of_caller kind_of caller log) (own' : own_entries t ≡ of_caller kind_of caller log') (caller_is : caller_number s ≡ caller) (number_is : pass_number s ≡ number) where
     abbrev grew : (e e' : Entry Call Reply) → kind_of e ≡ ACall caller mark number → log' ≡ log ++ e ∷ [] → e ≡ e' → HasAdded e' s t
     grew e e' is more same = record {
@@ -129,7 +129,7 @@ module _ {Call Reply State : Type 0} (plain : Manager Call Reply State) (d : Dec
 
   module _ {D O : Type 0} where
     -- the call was answered, by the facts of its turn: taken at w, asked through the cache at x, given back at t
-    pub attended : (use_of : ℕ → Call → Option ℕ) (s w x t : Shown (Entry Call Reply) D O) (log log' : List (Entry Call Reply)) → StartsWith log (seen_by s) → phase ≡ phase_of log → seen_by t ≡ log'
+    pub attended : (use_of : ℕ → Call → Option ℕ) (s w x t : SeatView (Entry Call Reply) D O) (log log' : List (Entry Call Reply)) → StartsWith log (seen_by s) → phase ≡ phase_of log → seen_by t ≡ log'
         → own_entries s ≡ of_caller kind_of (caller_number s) log → own_entries t ≡ of_caller kind_of (caller_number x) log' → caller_number s ≡ caller → caller_number x ≡ caller → pass_number s ≡ number
         → (follows : Follows) → AreNamed phase follows → slots_followed w ≡ maps.entries follows → slots_followed x ≡ slots_followed w → slots_followed t ≡ slots_followed x → keys_served w ≡ keys_served s → keys_served t ≡ keys_served x
         → (said : Said Reply) → said ≡ said_at plain d state phase caller call number → log' ≡ log ++ entry_at plain d state phase caller mark call number ∷ []

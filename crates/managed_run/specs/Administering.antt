@@ -6,7 +6,7 @@ use Rattle.manager_history.specs.declared.entry.Entry.{Entry}
 use Rattle.managed.specs.Seen.{Seen, Turn, event_of}
 use Rattle.managed.specs.declared.managed.Shown.{Shown as Showing}
 use Rattle.gate_rule.specs.declared.view.Item.{Item}
-use Rattle.epoch_gate.specs.Seats.{Shown, Site, IsOfGate}
+use Rattle.epoch_gate.specs.Seats.{SeatView, Site, IsOfGate}
 use Rattle.epoch_gate.specs.Known.{seen_by, seats_made, seats_retired, turns_had, greatest_number, versions_at, IsIdle}
 use Rattle.managed_run.specs.declared.docket.Opened.{Opened}
 use Rattle.managed_run.specs.Kinds.{phase_of}
@@ -27,7 +27,7 @@ tries_of turns = min (length turns) (2 ^ 64 - 1)
 -- a station, and its administrator
 pub record Holding (Core D Call Reply : Type 0) : Type 0 where
   pub site : Site D (Opened Core)
-  pub admin : Shown (Entry Call Reply) D (Opened Core)
+  pub admin : SeatView (Entry Call Reply) D (Opened Core)
 
 -- the administrator is the station's and has not the turn; where it made no seat, each of its turns was clear
 pub record IsHolding {Core D Call Reply : Type 0} (held : Holding Core D Call Reply) : Type 0 where

@@ -15,7 +15,7 @@ use Rattle.manager_history.specs.Answers.{Manager, Denial}
 use Rattle.manager_history.specs.Histories.{start_of, IsLawful}
 use Rattle.manager_history.specs.Laws.{RevocationHolds, DenialsAreJust}
 use Rattle.gate_rule.specs.History.{StartsWith}
-use Rattle.epoch_gate.specs.Seats.{Shown}
+use Rattle.epoch_gate.specs.Seats.{SeatView}
 use Rattle.epoch_gate.specs.Known.{seen_by, own_entries, caller_number, pass_held, pass_number, quota_left, keys_served, slots_followed}
 use Rattle.avc_rows.specs.Checks.{as_asked}
 use Rattle.managed_run.specs.Kinds.{phase_of}
@@ -30,22 +30,22 @@ pub record IsSound {Call Reply State : Type 0} (plain : Manager Call Reply State
 
 module _ {Call Reply D O : Type 0} where
   -- the entry of an operation of the seat, and that of its call that was aborted
-  abbrev pub operation_of : Shown (Entry Call Reply) D O → ℕ → Call → List Asked → Reply → Entry Call Reply
+  abbrev pub operation_of : SeatView (Entry Call Reply) D O → ℕ → Call → List Asked → Reply → Entry Call Reply
   operation_of s mark call asked reply = Op (caller_number s) mark call (pass_number s) asked reply
 
-  abbrev pub aborted_of : Shown (Entry Call Reply) D O → ℕ → Call → Entry Call Reply
+  abbrev pub aborted_of : SeatView (Entry Call Reply) D O → ℕ → Call → Entry Call Reply
   aborted_of s mark call = Aborted (caller_number s) mark call (pass_number s)
 
   -- the entry was added behind the history that the turn found, of which what was seen before is the beginning; of the own
   -- entries it is the only new one
-  pub record HasAdded (entry : Entry Call Reply) (s t : Shown (Entry Call Reply) D O) : Type 0 where
+  pub record HasAdded (entry : Entry Call Reply) (s t : SeatView (Entry Call Reply) D O) : Type 0 where
     pub before : List (Entry Call Reply)
     pub begins : StartsWith before (seen_by s)
     pub seen : seen_by t ≡ before ++ entry ∷ []
     pub mine : own_entries t ≡ own_entries s ++ entry ∷ []
 
   -- the seat was served the key of each question, in order; for a use through a slot that follows the pass's number, none
-  pub record HasServed (slot : Option ℕ) (asked : List Asked) (s t : Shown (Entry Call Reply) D O) : Type 0 where
+  pub record HasServed (slot : Option ℕ) (asked : List Asked) (s t : SeatView (Entry Call Reply) D O) : Type 0 where
     pub follows : Follows
     pub taken : slots_followed t ≡ maps.entries follows
     pub served : Some (map as_asked (keys_served t))
@@ -54,7 +54,7 @@ module _ {Call Reply D O : Type 0} where
   -- the call was done: an operation with these questions and this reply was added, and in the history that the turn found the
   -- pass's number was not below the settled one, and each used slot followed a number that may be named there, which is the
   -- settled one where nothing is pending
-  pub record HasDone (use_of : ℕ → Call → Option ℕ) (mark : ℕ) (call : Call) (asked : List Asked) (reply : Reply) (s t : Shown (Entry Call Reply) D O) : Type 0 where
+  pub record HasDone (use_of : ℕ → Call → Option ℕ) (mark : ℕ) (call : Call) (asked : List Asked) (reply : Reply) (s t : SeatView (Entry Call Reply) D O) : Type 0 where
     pub added : HasAdded (operation_of s mark call asked reply) s t
     pub in_force : is_aborted (phase_of added.before) (pass_number s) ≡ false
     pub served : HasServed (use_of (caller_number s) call) asked s t
@@ -62,24 +62,24 @@ module _ {Call Reply D O : Type 0} where
 
   -- the call was aborted: that was added, there were no questions, no key was served, and in the history that the turn found
   -- the pass's number was below the settled one
-  pub record HasAborted (mark : ℕ) (call : Call) (asked : List Asked) (s t : Shown (Entry Call Reply) D O) : Type 0 where
+  pub record HasAborted (mark : ℕ) (call : Call) (asked : List Asked) (s t : SeatView (Entry Call Reply) D O) : Type 0 where
     pub added : HasAdded (aborted_of s mark call) s t
     pub below : is_aborted (phase_of added.before) (pass_number s) ≡ true
     pub none_asked : asked ≡ []
     pub keys : keys_served t ≡ keys_served s
 
   -- the call was answered so
-  abbrev pub HasAnswered : (ℕ → Call → Option ℕ) → ℕ → Call → Said Reply → List Asked → Shown (Entry Call Reply) D O → Shown (Entry Call Reply) D O → Type 0
+  abbrev pub HasAnswered : (ℕ → Call → Option ℕ) → ℕ → Call → Said Reply → List Asked → SeatView (Entry Call Reply) D O → SeatView (Entry Call Reply) D O → Type 0
   HasAnswered use_of mark call (saying.Did reply) asked s t = HasDone use_of mark call asked reply s t
   HasAnswered use_of mark call saying.Aborted asked s t = HasAborted mark call asked s t
 
   -- nothing was added: what was seen is how the history that the turn found begins, and the own entries are as before
-  pub record HasAddedNone (s t : Shown (Entry Call Reply) D O) : Type 0 where
+  pub record HasAddedNone (s t : SeatView (Entry Call Reply) D O) : Type 0 where
     pub begins : StartsWith (seen_by t) (seen_by s)
     pub mine : own_entries t ≡ own_entries s
 
   -- the caller's number, pass and quota are as before
-  pub record KeepsPass (s t : Shown (Entry Call Reply) D O) : Type 0 where
+  pub record KeepsPass (s t : SeatView (Entry Call Reply) D O) : Type 0 where
     pub number : caller_number t ≡ caller_number s
     pub pass : pass_held t ≡ pass_held s
     pub quota : quota_left t ≡ quota_left s

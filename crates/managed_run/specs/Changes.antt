@@ -12,7 +12,7 @@ use Rattle.gate_rule.specs.declared.view.Item.{Item}
 use Rattle.gate_rule.specs.History.{controls, StartsWith}
 use Rattle.gate_rule.specs.Views.{leave_word, done, entries_of}
 use Rattle.epoch_gate.specs.Calls as counts
-use Rattle.epoch_gate.specs.Seats.{Shown}
+use Rattle.epoch_gate.specs.Seats.{SeatView}
 use Rattle.epoch_gate.specs.Known.{seen_by, step_before, found_before, found_last, older_shown, seats_made, seats_retired, current_number, current_version, passes_counted, cleared_below, stale_found, stale_left, slots_given, turns_had}
 use Rattle.managed_run.specs.Kinds.{kind_of, phase_of}
 
@@ -31,14 +31,14 @@ abbrev pub AllFollow : ℕ → List (ℕ × ℕ) → Type 0
 AllFollow number slots = All (λ slot. slot.1 ≡ number) slots
 
 -- where passes were to be counted they were, by one load of the counter of the other parity, which shows so many; else there was no step, and none
-abbrev pub HasLooked : {E D O : Type 0} → Bool → ℕ → Shown E D O → Shown E D O → Type 0
+abbrev pub HasLooked : {E D O : Type 0} → Bool → ℕ → SeatView E D O → SeatView E D O → Type 0
 HasLooked true older a b =
     counts.HasCounted a b × (older + found_last b ≡ passes_counted a) × (older_shown b ≡ Some older) × (older ≡ 0 → cleared_below b ≡ current_number a)
     × (older + length (seats_retired a) ≤ seats_made a)
 HasLooked false older a b = (older ≡ 0) × (b ≡ a)
 
 -- what was seen, the turns had, the seats made and retired, the current number with its version, and the stale slots found are as before
-pub record KeepsDesk {E D O : Type 0} (a b : Shown E D O) : Type 0 where
+pub record KeepsDesk {E D O : Type 0} (a b : SeatView E D O) : Type 0 where
   pub seen : seen_by b ≡ seen_by a
   pub turns : turns_had b ≡ turns_had a
   pub made : seats_made b ≡ seats_made a
@@ -66,7 +66,7 @@ module _ {Call Reply D O : Type 0} where
   -- the history that a turn of the administrator found: what was seen before is its beginning, its notices and
   -- acknowledgements are those of the turns before, which had all been seen, and while no seat was made, or nothing was
   -- pending, no slot was stale
-  pub record HasFound (before : List (Entry Call Reply)) (a b : Shown (Entry Call Reply) D O) : Type 0 where
+  pub record HasFound (before : List (Entry Call Reply)) (a b : SeatView (Entry Call Reply) D O) : Type 0 where
     pub begins : StartsWith before (seen_by a)
     pub changes : controls kind_of before ≡ entries_of (turns_had a)
     pub known : controls kind_of (seen_by a) ≡ entries_of (turns_had a)
@@ -75,12 +75,12 @@ module _ {Call Reply D O : Type 0} where
 
   -- the turn is told by one item more: the entry that it added, the older passes that it showed, and the stale slots that it
   -- found and left
-  abbrev pub HasTurned : Option (Entry Call Reply) → Option ℕ → Shown (Entry Call Reply) D O → Shown (Entry Call Reply) D O → Type 0
+  abbrev pub HasTurned : Option (Entry Call Reply) → Option ℕ → SeatView (Entry Call Reply) D O → SeatView (Entry Call Reply) D O → Type 0
   HasTurned added looked a b = turns_had b ≡ turns_had a ++ (record { entry = added; looked = looked; found = stale_found b; left = stale_left b }) ∷ []
 
   -- a change was begun: over the history found there was no fault; behind it stands the notice of the next number, which is the
   -- current one now, with this version
-  pub record HasNotified (versions most version number : ℕ) (a b : Shown (Entry Call Reply) D O) : Type 0 where
+  pub record HasNotified (versions most version number : ℕ) (a b : SeatView (Entry Call Reply) D O) : Type 0 where
     pub before : List (Entry Call Reply)
     pub found : HasFound before a b
     pub allowed : notice_fault (phase_of before) versions version most ≡ None
@@ -91,7 +91,7 @@ module _ {Call Reply D O : Type 0} where
     pub at_version : current_version b ≡ version
 
   -- the turn added nothing and counted no passes, and the current number and its version are as before
-  pub record HasTurnedNone (a b : Shown (Entry Call Reply) D O) : Type 0 where
+  pub record HasTurnedNone (a b : SeatView (Entry Call Reply) D O) : Type 0 where
     pub found : HasFound (seen_by b) a b
     pub turn : HasTurned None None a b
     pub current : current_number b ≡ current_number a
@@ -99,7 +99,7 @@ module _ {Call Reply D O : Type 0} where
 
   -- where passes are to be counted, the step before the last was a load of the leave counter of the other parity than the
   -- current number's, and so many of the passes counted had not left, which are no more than the seats; else none were counted
-  abbrev pub HasCounted : Bool → ℕ → Option ℕ → Shown (Entry Call Reply) D O → Shown (Entry Call Reply) D O → Type 0
+  abbrev pub HasCounted : Bool → ℕ → Option ℕ → SeatView (Entry Call Reply) D O → SeatView (Entry Call Reply) D O → Type 0
   HasCounted true older looked a b =
       (looked ≡ Some older) × (step_before b ≡ done (leave_word (current_number a + 1)) (found_before b) (found_before b)) × (older + found_before b ≡ passes_counted a)
       × (older + length (seats_retired a) ≤ seats_made a)
@@ -109,7 +109,7 @@ module _ {Call Reply D O : Type 0} where
   -- and the stale slots that were found. Done adds its entry and lets every used slot follow the number, and each answer leaves
   -- as many slots stale as were found. Where one that is not forced is done, no pass below the number is out but those below a
   -- forced one
-  pub record HasAcknowledged (forced : Bool) (manager : ℕ) (answer : Ack) (a b : Shown (Entry Call Reply) D O) : Type 0 where
+  pub record HasAcknowledged (forced : Bool) (manager : ℕ) (answer : Ack) (a b : SeatView (Entry Call Reply) D O) : Type 0 where
     pub before : List (Entry Call Reply)
     pub found : HasFound before a b
     pub older : ℕ
@@ -127,7 +127,7 @@ module _ {Call Reply D O : Type 0} where
   -- the change is settled: over the history found it was pending under this number, behind which its acknowledgement stands; the item of the
   -- turn has that entry, no older pass was shown and no slot was stale, before or after; unless it is forced no pass below the
   -- number is out; and every used slot follows the number
-  pub record HasSettled (forced : Bool) (number : ℕ) (a b : Shown (Entry Call Reply) D O) : Type 0 where
+  pub record HasSettled (forced : Bool) (number : ℕ) (a b : SeatView (Entry Call Reply) D O) : Type 0 where
     pub before : List (Entry Call Reply)
     pub begins : StartsWith before (seen_by a)
     pub pending : is_pending (phase_of before) ≡ true
@@ -138,20 +138,20 @@ module _ {Call Reply D O : Type 0} where
     pub follow : AllFollow number (slots_given b)
 
   -- an answer of done is a receipt of this manager, and the change is settled under the number that it names
-  abbrev pub IsSettled : Bool → ℕ → Ack → Shown (Entry Call Reply) D O → Shown (Entry Call Reply) D O → Type 0
+  abbrev pub IsSettled : Bool → ℕ → Ack → SeatView (Entry Call Reply) D O → SeatView (Entry Call Reply) D O → Type 0
   IsSettled forced manager (acks.Done receipt) a b = (receipt.manager ≡ manager) × HasSettled forced receipt.number a b
   IsSettled forced manager answer a b = Unit {0}
 
   -- the current number is the newest of the history seen, which is the pending one while one is pending, with that number's version
-  pub record IsCurrent (a : Shown (Entry Call Reply) D O) : Type 0 where
+  pub record IsCurrent (a : SeatView (Entry Call Reply) D O) : Type 0 where
     pub number : current_number a ≡ number_of (phase_of (seen_by a))
     pub version : current_version a ≡ version_at (phase_of (seen_by a)) (current_number a)
 
   -- where no seat was made and each turn so far was clear, so is this one
-  abbrev pub StaysClear : Shown (Entry Call Reply) D O → Shown (Entry Call Reply) D O → Type 0
+  abbrev pub StaysClear : SeatView (Entry Call Reply) D O → SeatView (Entry Call Reply) D O → Type 0
   StaysClear a b = seats_made a ≡ 0 → All IsClear (turns_had a) → All IsClear (turns_had b)
 
   -- the seats made and retired are as before
-  pub record KeepsSeats (a b : Shown (Entry Call Reply) D O) : Type 0 where
+  pub record KeepsSeats (a b : SeatView (Entry Call Reply) D O) : Type 0 where
     pub made : seats_made b ≡ seats_made a
     pub retired : seats_retired b ≡ seats_retired a

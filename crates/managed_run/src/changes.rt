@@ -30,7 +30,7 @@ fn count_older<'d, V: Journal<D>, D: Decider>(
     requires turn { HasTurn admin.old }
     requires unsettled { pending ≡ true → IsUnsettled V.means.kind admin.old }
     ensures counted { Changes.HasLooked pending result admin.old admin.new }
-    ensures desk { Changes.KeepsDesk admin.old admin.new }
+    ensures admin_view { Changes.KeepsDesk admin.old admin.new }
     ensures turn { HasTurn admin.new }
     ensures gate { IsOfGate gate.now admin.new }
 {

@@ -13,7 +13,7 @@ use Rattle.manager_history.specs.Answers.{Manager}
 use Rattle.manager_history.specs.Histories.{moment, start_of, replay, greatest_forced, IsLawful}
 
 -- what contracts see of a keeper: the core, the decider, the manager's number, the phase, and the history, oldest first
-pub record Kept (Core Decider Call Reply : Type 0) : Type 0 where
+pub record KeeperView (Core Decider Call Reply : Type 0) : Type 0 where
   pub core : Core
   pub decider : Decider
   pub manager : ℕ
@@ -22,7 +22,7 @@ pub record Kept (Core Decider Call Reply : Type 0) : Type 0 where
 
 -- the slots of a keeper that its pending change leaves stale, by what its core means, least client and then least slot first
 abbrev pub stale_in : {Core Decider Call Reply State : Type 0} → Decisions → Class → (State → ℕ → Option Pair)
-    → (Core → State) → (Core → Follows) → Kept Core Decider Call Reply → List ℕ
+    → (Core → State) → (Core → Follows) → KeeperView Core Decider Call Reply → List ℕ
 stale_in d class pair_of state follows kept = stale_slots d class kept.phase (pair_of (state kept.core)) (follows kept.core)
 
 -- while a change is pending there is room for its acknowledgement

@@ -58,9 +58,9 @@ pub struct Keeper<'d, C: Core, D: Decider> {
 
 impl<'d, C: Core, D: Decider> Model for Keeper<'d, C, D> {
     ghost use Rattle.std.specs.Prelude.{◌≡◌, vec_capacity};
-    ghost use Rattle.manager_history.specs.Kept.{Kept, IsKept};
+    ghost use Rattle.manager_history.specs.Kept.{KeeperView, IsKept};
 
-    ghost Value = { Kept C D C.Call C.Reply };
+    ghost Value = { KeeperView C D C.Call C.Reply };
 
     ghost view = { λ keeper. record {
       core = keeper.core;

@@ -107,7 +107,7 @@ pub record Grown (policy : PolicyParts) : Type 0 where
   pub versions : Grows (MayVersion policy.kinds policy.attributes) [] policy.versions
 
 -- what a whole policy keeps
-pub record Kept (policy : PolicyParts) : Type 0 where
+pub record IsWholePolicy (policy : PolicyParts) : Type 0 where
   pub grown : Grown policy
   pub context : 0 < length policy.contexts
   pub version : 0 < length policy.versions

@@ -1,7 +1,7 @@
 //! A whole policy, which keeps what a text asks of one.
 
 ghost use Rattle.std.specs.Prelude.{◌≡◌};
-ghost use Rattle.policy_model.specs.Kept.{Kept};
+ghost use Rattle.policy_model.specs.Kept.{IsWholePolicy};
 
 use crate::policy::PolicyParts;
 use std::marker::Model;
@@ -15,19 +15,19 @@ pub struct PolicyText {
 
 impl Model for PolicyText {
     ghost use Rattle.policy_model.specs.declared.policy.PolicyParts.{PolicyParts};
-    ghost use Rattle.policy_model.specs.Kept.{Kept};
+    ghost use Rattle.policy_model.specs.Kept.{IsWholePolicy};
 
     ghost Value = { PolicyParts };
 
     ghost view = { λ policy. policy.parts };
 
-    ghost invariant = { λ policy. Kept policy.parts };
+    ghost invariant = { λ policy. IsWholePolicy policy.parts };
 }
 
 impl PolicyText {
     /// The policy of lists that keep this.
     pub fn of(parts: PolicyParts) -> PolicyText
-        requires { Kept parts }
+        requires { IsWholePolicy parts }
         ensures { result ≡ parts }
     {
         PolicyText { parts }
@@ -36,7 +36,7 @@ impl PolicyText {
     /// The seven lists.
     pub fn parts(&self) -> &PolicyParts
         ensures parts { result.now ≡ self.now }
-        ensures kept { Kept self.now }
+        ensures kept { IsWholePolicy self.now }
     {
         &self.parts
     }

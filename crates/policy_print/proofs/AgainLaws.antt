@@ -10,7 +10,7 @@ use Rattle.text_print.proofs.LineLaws.{lines_of_text}
 use Rattle.text_print.proofs.LeadLaws.{lead_lines}
 use Rattle.policy_model.specs.declared.policy.PolicyParts.{PolicyParts}
 use Rattle.policy_text.specs.Grammar.{line_read, is_whole, end_read, policy_of}
-use Rattle.policy_model.specs.Kept.{Grown, Kept}
+use Rattle.policy_model.specs.Kept.{Grown, IsWholePolicy}
 use Rattle.policy_print.specs.Printed.{policy_lines, printed}
 use Rattle.policy_print.specs.Same.{bare_context, bare_version, IsSamePolicy, IsSameAbove, IsTextOf}
 use Rattle.policy_print.proofs.SameLaws.{same_length}
@@ -21,7 +21,7 @@ some_left : {X : Type 0} (xs ys : List X) → length xs ≡ length ys → 0 < le
 some_left xs ys same some = ap not (ne_eqb (length xs) 0 (λ none. omega (arith, none, same, some)))
 
 -- a text may end below a policy that is the same as a kept one
-pub end_same : (n : ℕ) (next policy : PolicyParts) → Kept policy → IsSamePolicy next policy → end_read n (Some next) ≡ Ok next
+pub end_same : (n : ℕ) (next policy : PolicyParts) → IsWholePolicy policy → IsSamePolicy next policy → end_read n (Some next) ≡ Ok next
 unfolding end_read is_whole
 end_same n next policy kept same =
     let context = some_left next.contexts policy.contexts (same_length bare_context next.contexts policy.contexts same.contexts) kept.context in
@@ -35,7 +35,7 @@ lines_printed policy grown =
     lines_of_text (policy_lines policy) (policy_lines_words policy grown)
 
 -- a kept policy that was printed in no more lines than a text may have is read as the same policy again
-pub printed_again : (policy : PolicyParts) → Kept policy → length (lines_of (printed policy)) ≤ line_limit → IsTextOf policy (printed policy)
+pub printed_again : (policy : PolicyParts) → IsWholePolicy policy → length (lines_of (printed policy)) ≤ line_limit → IsTextOf policy (printed policy)
 unfolding policy_of
 printed_again policy kept short =
     let lines = lines_printed policy kept.grown in

@@ -33,7 +33,7 @@ use Rattle.policy_model.specs.Declarations.{context_limit, kind_limit, attribute
 use Rattle.policy_text.specs.Above.{is_long_pattern, is_long_label, has_version, newest_rules, is_full_for}
 use Rattle.policy_text.specs.Known.{pattern_of, deciding_rule, labelling_rule}
 use Rattle.policy_text.specs.Grammar.{with_kind, with_context, with_listed, with_rule, context_read, kind_read, attribute_read, listed_read, version_read, decided_read, labelled_read, below_header, no_parts, form_read, words_read, line_read, is_whole}
-use Rattle.policy_model.specs.Kept.{Grows, is_kind_name, MayKind, MayContext, MayAttribute, IsApart, MayPattern, IsRule, MayRule, MayVersion, Grown, Kept, GrownAbove}
+use Rattle.policy_model.specs.Kept.{Grows, is_kind_name, MayKind, MayContext, MayAttribute, IsApart, MayPattern, IsRule, MayRule, MayVersion, Grown, IsWholePolicy, GrownAbove}
 use Rattle.policy_model.proofs.GrowsLemmas.{grows_snoc, grows_more, none_snoc, all_more}
 use Rattle.policy_text.proofs.StepLemmas.{unless, after}
 use Rattle.policy_text.proofs.FormLemmas.{GoodContext, GoodPattern, GoodLabel, Good, if_some, good_line}
@@ -411,7 +411,7 @@ unfolding line_read
 line_keeps n line above grown = after (line_words n line) _ GrownAbove (λ words is. words_keep n words above grown)
 
 -- a policy that is whole
-pub whole_kept : (policy : PolicyParts) → Grown policy → is_whole policy ≡ true → Kept policy
+pub whole_kept : (policy : PolicyParts) → Grown policy → is_whole policy ≡ true → IsWholePolicy policy
 unfolding is_whole
 whole_kept policy grown whole =
     let both = and_parts (not (eqb (length policy.contexts) 0)) (not (eqb (length policy.versions) 0)) whole in

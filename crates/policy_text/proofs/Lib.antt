@@ -6,3 +6,4 @@ pub mod FormLemmas
 pub mod DeclaredLemmas
 pub mod KeptLemmas
 pub mod IndexLemmas
+pub mod LongLemmas

@@ -1,6 +1,6 @@
 //! What the names in a line stand for, where the lines above and the table of classes know them.
 
-ghost use Rattle.std.specs.Prelude.{◌≡◌, IfOk};
+ghost use Rattle.std.specs.Prelude.{◌≡◌, ◌∷◌, IfOk};
 ghost use Rattle.text_lines.specs.ResultSteps.{found_or};
 ghost use Rattle.text_lines.specs.Refusals.{Gives};
 ghost use Rattle.text_lines.specs.declared.fault.FaultKind.TheVariants.{Unknown};
@@ -27,10 +27,18 @@ fn whole_row(class: Class) -> Vector
     }
 }
 
-fn perms_named(class: Class, words: Words<'_>) -> Option<Vector>
-    ensures { result ≡ Known.perms_named class 0 words.entry }
+// The permissions that a name and the words behind it are.
+fn perms_from(class: Class, first: &Word<'_>, words: Words<'_>) -> Option<Vector>
+    ensures { result ≡ Known.perms_named class 0 (first.now ∷ words.entry) }
 {
-    let mut vector = Vector::empty();
+    let perm = perm_of(class, first.as_bytes())?;
+    perms_with(class, Vector::empty().with(perm.index()), words)
+}
+
+fn perms_with(class: Class, known: Vector, words: Words<'_>) -> Option<Vector>
+    ensures { result ≡ Known.perms_named class known words.entry }
+{
+    let mut vector = known;
     let mut rest = words;
     'names: while let Some(name) = rest.next() {
         let perm = perm_of(class, name.as_bytes())?;
@@ -50,7 +58,7 @@ fn perms_of(class: Class, words: &Words<'_>) -> Option<Vector>
             if first.is(b"*") {
                 Some(whole_row(class))
             } else {
-                perms_named(class, words.again())
+                perms_from(class, &first, rest)
             }
         }
     }

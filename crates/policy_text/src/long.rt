@@ -47,6 +47,10 @@ impl LabelForm<'_> {
 pub(crate) fn is_some_long(words: Words<'_>) -> bool
     ensures { result ≡ list_any is_long words.entry }
 {
+    // Nearly every line is so short that no word of it is long, and then no word is cut.
+    if words.are_within(32) {
+        return false;
+    }
     let mut rest = words;
     'names: while let Some(word) = rest.next() {
         if word.is_long() {

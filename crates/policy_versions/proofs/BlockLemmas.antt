@@ -10,11 +10,12 @@ use Rattle.policy_model.specs.declared.policy.WhoOf.TheVariants.{Named, Any, Its
 use Rattle.policy_model.specs.Matching.{matches_source, matches_target}
 use Rattle.policy_versions.specs.declared.change.Change.{Change}
 use Rattle.policy_versions.specs.declared.row.Row.{Row}
-use Rattle.policy_versions.specs.Changes.{changed_if, cell_of, no_row, AreChanged, AreMatchedChanged}
+use Rattle.policy_versions.specs.Changes.{changed_if, cell_of, no_row, AreBlank, AreChanged, AreMatchedChanged}
 use Rattle.policy_versions.specs.Sets.{has_place}
 use Rattle.policy_versions.specs.Places.{kind_at}
 use Rattle.policy_versions.specs.Kinds.{IsSourceSet, AreApart}
 use Rattle.policy_versions.proofs.KindLemmas.{same_place}
+use Rattle.policy_versions.proofs.RowLemmas.{zeros}
 
 -- a cell of the row that is written, and of any other
 cell_of-set_same : (rows : List Row) (s t : ℕ) (row : Row) → s < length rows → cell_of (set rows s row) s t ≡ get_or row.cells t 0
@@ -22,6 +23,10 @@ cell_of-set_same rows s t row within = ap (λ (r : Row). get_or r.cells t 0) (ge
 
 cell_of-set_other : (rows : List Row) (i s t : ℕ) (row : Row) → s ≢ i → cell_of (set rows i row) s t ≡ cell_of rows s t
 cell_of-set_other rows i s t row apart = ap (λ (r : Row). get_or r.cells t 0) (get_or-set_other rows i s row no_row apart)
+
+-- the cells of blank rows
+pub blank_cells : (rows : List Row) → AreBlank rows → (s t : ℕ) → s < 128 → cell_of rows s t ≡ 0
+blank_cells rows blank s t within = ap (λ (r : Row). get_or r.cells t 0) (blank.same s within) ∙ zeros 128 t
 
 -- the sources below one pass
 abbrev pub below : ℕ → (ℕ → ℕ → Bool) → ℕ → ℕ → Bool

@@ -11,7 +11,7 @@ use Rattle.access_vectors.specs.declared.class.Class.{Class}
 use Rattle.policy_model.specs.declared.policy.PolicyParts.{PolicyParts}
 use Rattle.policy_model.specs.declared.policy.Labelling.TheVariants.{Transition, Member}
 use Rattle.policy_model.specs.Deciding.{label_of, member_of, takes_after_maker}
-use Rattle.policy_model.specs.Kept.{Kept}
+use Rattle.policy_model.specs.Kept.{IsWholePolicy}
 use Rattle.policy_versions.specs.Closure.{IsDerivable, declared, label, member, declared_contexts}
 use Rattle.policy_versions.specs.Numbers.{has_place, is_marked, object_row, AreRows, context_at, made_kind, made_row, Derives, IsPresent}
 use Rattle.policy_versions.specs.Gives.{GivenPlaces, AreGiven}
@@ -48,7 +48,7 @@ pub record IsGood (policy : PolicyParts) (users : List UserRole) (row kind : ℕ
   pub derives : Derives policy users row kind
 
 -- a step from a context to which the policy leads, for a target that it leads to
-module _ (policy : PolicyParts) (users : List UserRole) (kept : Kept policy) (rows : AreRows users) (given : GivenPlaces) (are : AreGiven policy given) where
+module _ (policy : PolicyParts) (users : List UserRole) (kept : IsWholePolicy policy) (rows : AreRows users) (given : GivenPlaces) (are : AreGiven policy given) where
   own_derives : (version row s t kind : ℕ) → version < length policy.versions → row < length users → Derives policy users row s → IsPresent policy users t → GivesOwn given version s t kind → Derives policy users row kind
   own_derives version row s t kind below within derives is gives =
       let made : Derives policy users (made_row users row gives.class) (made_kind given version s t gives.class) = subst (IsDerivable policy) (sym (label_at policy users given are rows version row s is.row t within (place_declared policy kept users row s derives) (place_declared policy kept users is.row t is.derives) gives.class)) (label version _ _ gives.class below derives is.derives) in
@@ -88,7 +88,7 @@ unfolding are_present
 present_at present places all row kind has = all_has (λ r k. is_marked present 0 k ≡ true) places (AllPass-from_list_all (λ (place : Place). is_marked present 0 place.kind) places all) row kind has
 
 -- places whose steps are followed, for present types that are all of theirs, have all contexts to which the policy leads
-module _ (policy : PolicyParts) (users : List UserRole) (kept : Kept policy) (rows : AreRows users) (given : GivenPlaces) (are : AreGiven policy given) (present own object : List Bool) (start places : List Place)
+module _ (policy : PolicyParts) (users : List UserRole) (kept : IsWholePolicy policy) (rows : AreRows users) (given : GivenPlaces) (are : AreGiven policy given) (present own object : List Bool) (start places : List Place)
     (begins : contexts_of policy users start ≡ declared_contexts policy) (front : HasFront places start) (inside : All (IsInside (length users)) places) (derive : AllDerive policy users places)
     (all : are_present present places ≡ true) (takes : TakesVersions given present (length policy.versions) own object)
     (followed : AreFollowed users own object places (length places)) where
@@ -180,7 +180,7 @@ kind_present policy users places good t has =
     record { row = found.1.row; within = is.within; derives = subst (λ k. Derives policy users found.1.row k) (eqb-true _ _ found.4) is.derives }
 
 -- after a round all places are good
-pub round_good : (policy : PolicyParts) (users : List UserRole) → Kept policy → AreRows users → (given : GivenPlaces) → AreGiven policy given → (versions : ℕ) → versions ≡ length policy.versions → (present own object : List Bool) (start : List Place) → AreDue given versions present own object → ((kind : ℕ) → kind < 128 → is_marked present 0 kind ≡ has_kind start kind) → ((row kind : ℕ) → has_place start row kind ≡ true → IsGood policy users row kind) → (row kind : ℕ) → Leads users own object start row kind → IsGood policy users row kind
+pub round_good : (policy : PolicyParts) (users : List UserRole) → IsWholePolicy policy → AreRows users → (given : GivenPlaces) → AreGiven policy given → (versions : ℕ) → versions ≡ length policy.versions → (present own object : List Bool) (start : List Place) → AreDue given versions present own object → ((kind : ℕ) → kind < 128 → is_marked present 0 kind ≡ has_kind start kind) → ((row kind : ℕ) → has_place start row kind ≡ true → IsGood policy users row kind) → (row kind : ℕ) → Leads users own object start row kind → IsGood policy users row kind
 round_good policy users kept rows given are versions of present own object start due shows good row kind leads =
     led_good policy users kept rows given are present own object start
     (subst (λ n. AreDue given n present own object) of due)

@@ -16,7 +16,7 @@ use Rattle.policy_model.specs.declared.policy.PolicyParts.{PolicyParts}
 use Rattle.policy_model.specs.declared.policy.Labelling.TheVariants.{Transition, Member}
 use Rattle.policy_model.specs.Declarations.{is_kind}
 use Rattle.policy_model.specs.Deciding.{given_kind, label_of, member_of, takes_after_maker}
-use Rattle.policy_model.specs.Kept.{Grows, is_kind_name, MayKind, MayContext, Kept}
+use Rattle.policy_model.specs.Kept.{Grows, is_kind_name, MayKind, MayContext, IsWholePolicy}
 use Rattle.policy_versions.specs.Places.{kind_at}
 use Rattle.policy_versions.specs.Closure.{IsDerivable, declared, label, member}
 use Rattle.policy_versions.specs.Numbers.{row_at, object_row, AreRows, is_user_role, context_at, made_kind, made_row}
@@ -77,7 +77,7 @@ contexts_declared kinds seen [] grows k d within = absurd (omega arith)
 contexts_declared kinds seen (line ∷ contexts) grows zero d within = grows.0.kind
 contexts_declared kinds seen (line ∷ contexts) grows (suc k) d within = contexts_declared kinds (seen ++ line ∷ []) contexts grows.1 k d (omega arith)
 
-kind_of_label : (policy : PolicyParts) → Kept policy → (version : ℕ) (s t : ContextOf (List ℕ)) (class : Class) → is_kind policy.kinds s.kind ≡ true → is_kind policy.kinds t.kind ≡ true → is_kind policy.kinds (label_of policy version s t class).kind ≡ true
+kind_of_label : (policy : PolicyParts) → IsWholePolicy policy → (version : ℕ) (s t : ContextOf (List ℕ)) (class : Class) → is_kind policy.kinds s.kind ≡ true → is_kind policy.kinds t.kind ≡ true → is_kind policy.kinds (label_of policy version s t class).kind ≡ true
 unfolding label_of
 kind_of_label policy kept version s t class of_s of_t =
     elim (given_kind Transition policy version s.kind t.kind class) as (λ given. given_kind Transition policy version s.kind t.kind class ≡ given → is_kind policy.kinds (unwrap_or given (cond (takes_after_maker class) s.kind t.kind)) ≡ true) [
@@ -85,7 +85,7 @@ kind_of_label policy kept version s t class of_s of_t =
       | None ↦ λ e. elim (takes_after_maker class) as (λ b. is_kind policy.kinds (cond b s.kind t.kind) ≡ true) [ true ↦ of_s | false ↦ of_t ]
     ] refl
 
-kind_of_member : (policy : PolicyParts) → Kept policy → (version : ℕ) (s t : ContextOf (List ℕ)) (class : Class) → is_kind policy.kinds t.kind ≡ true → is_kind policy.kinds (member_of policy version s t class).kind ≡ true
+kind_of_member : (policy : PolicyParts) → IsWholePolicy policy → (version : ℕ) (s t : ContextOf (List ℕ)) (class : Class) → is_kind policy.kinds t.kind ≡ true → is_kind policy.kinds (member_of policy version s t class).kind ≡ true
 unfolding member_of
 kind_of_member policy kept version s t class of_t = by_given _ refl
   where
@@ -93,7 +93,7 @@ kind_of_member policy kept version s t class of_t = by_given _ refl
     by_given None e = rw e of_t
     by_given (Some name) e = rw e (given_declared policy kept Member version s.kind t.kind class name e)
 
-pub kind_declared : (policy : PolicyParts) → Kept policy → (context : ContextOf (List ℕ)) → IsDerivable policy context → is_kind policy.kinds context.kind ≡ true
+pub kind_declared : (policy : PolicyParts) → IsWholePolicy policy → (context : ContextOf (List ℕ)) → IsDerivable policy context → is_kind policy.kinds context.kind ≡ true
 kind_declared policy kept _ (declared context is) =
     rw (← is.2) (contexts_declared policy.kinds [] policy.contexts kept.grown.contexts is.0 context is.1)
 kind_declared policy kept _ (label version s t class below of_s of_t) =
@@ -113,7 +113,7 @@ none_nameless seen [] grows = refl
 none_nameless seen (kind ∷ kinds) grows = or_from _ _ (nameless kind.name grows.0.named) (none_nameless (seen ++ kind ∷ []) kinds grows.1)
 
 -- the numbers of a context that the policy leads to are those of a declared type
-pub place_declared : (policy : PolicyParts) → Kept policy → (users : List UserRole) (row kind : ℕ) → IsDerivable policy (context_at policy users row kind) → kind < length policy.kinds
+pub place_declared : (policy : PolicyParts) → IsWholePolicy policy → (users : List UserRole) (row kind : ℕ) → IsDerivable policy (context_at policy users row kind) → kind < length policy.kinds
 unfolding context_at
 place_declared policy kept users row kind derives = by_order (cases_lt kind (length policy.kinds))
   where
@@ -137,7 +137,7 @@ one_row users rows i j of_i of_j user role = by_order (cases_order i j)
     by_order (inr (inr after)) = absurd (both_ways _ (rows.apart j i after of_i) (passes j i (sym user) (sym role)))
 
 -- different numbers mean different contexts
-pub one_context : (policy : PolicyParts) (users : List UserRole) → Kept policy → AreRows users → (row kind row' kind' : ℕ) → row < length users → row' < length users → IsDerivable policy (context_at policy users row kind) → IsDerivable policy (context_at policy users row' kind') → context_at policy users row kind ≡ context_at policy users row' kind' → (row ≡ row') × (kind ≡ kind')
+pub one_context : (policy : PolicyParts) (users : List UserRole) → IsWholePolicy policy → AreRows users → (row kind row' kind' : ℕ) → row < length users → row' < length users → IsDerivable policy (context_at policy users row kind) → IsDerivable policy (context_at policy users row' kind') → context_at policy users row kind ≡ context_at policy users row' kind' → (row ≡ row') × (kind ≡ kind')
 unfolding context_at
 one_context policy users kept rows row kind row' kind' of_row of_row' derives derives' same = (
   one_row users rows row row' of_row of_row' (ap (λ (c : ContextOf (List ℕ)). c.user) same) (ap (λ (c : ContextOf (List ℕ)). c.role) same),

@@ -11,7 +11,7 @@ use Rattle.flask_sid.specs.declared.context.ContextOf.{ContextOf}
 use Rattle.policy_model.specs.declared.policy.ContextLine.{ContextLine}
 use Rattle.policy_model.specs.declared.policy.PolicyParts.{PolicyParts}
 use Rattle.policy_model.specs.Declarations.{is_kind, same_context, has_context}
-use Rattle.policy_model.specs.Kept.{MayContext, Kept}
+use Rattle.policy_model.specs.Kept.{MayContext, IsWholePolicy}
 use Rattle.policy_versions.specs.Places.{kind_at}
 use Rattle.policy_versions.specs.Closure.{declared_contexts}
 use Rattle.policy_versions.specs.Numbers.{row_at, context_at}
@@ -25,7 +25,7 @@ use Rattle.policy_versions.proofs.UserLemmas.{none_such}
 use Rattle.policy_versions.proofs.FoundLemmas.{front_shorter}
 
 -- the type of a declared context is declared
-pub line_kind : (policy : PolicyParts) → Kept policy → (lines : List ContextLine) → lines ≡ policy.contexts → (i : ℕ) (line : ContextLine) → i < length lines → line ≡ get_or lines i line → is_kind policy.kinds line.context.kind ≡ true
+pub line_kind : (policy : PolicyParts) → IsWholePolicy policy → (lines : List ContextLine) → lines ≡ policy.contexts → (i : ℕ) (line : ContextLine) → i < length lines → line ≡ get_or lines i line → is_kind policy.kinds line.context.kind ≡ true
 line_kind policy kept lines all i line within is =
     let of_all : i < length policy.contexts = subst (λ xs. i < length xs) all within in
     let may : MayContext policy.kinds (take i policy.contexts) (get_or policy.contexts i line) = grows_at (MayContext policy.kinds) [] policy.contexts kept.grown.contexts i line of_all in
@@ -66,7 +66,7 @@ inside_more users' users places row kind begins inside within small =
     (record { row = within; kind = small })
 
 -- declared contexts are different
-declared_apart : (policy : PolicyParts) → Kept policy → (i j : ℕ) (d : ContextLine) → i < j → j < length policy.contexts → (get_or policy.contexts i d).context ≡ (get_or policy.contexts j d).context → ⊥
+declared_apart : (policy : PolicyParts) → IsWholePolicy policy → (i j : ℕ) (d : ContextLine) → i < j → j < length policy.contexts → (get_or policy.contexts i d).context ≡ (get_or policy.contexts j d).context → ⊥
 unfolding has_context
 declared_apart policy kept i j d before within same =
     let may : MayContext policy.kinds (take j policy.contexts) (get_or policy.contexts j d) = grows_at (MayContext policy.kinds) [] policy.contexts kept.grown.contexts j d within in
@@ -77,7 +77,7 @@ declared_apart policy kept i j d before within same =
     both_ways _ may.new (list_any_at (λ (line : ContextLine). same_context line.context c) (take j policy.contexts) i d short here)
 
 -- and so are their places
-pub declared_distinct : (policy : PolicyParts) → Kept policy → (users : List UserRole) (places : List Place) → contexts_of policy users places ≡ declared_contexts policy → IsDistinct is_same_place places
+pub declared_distinct : (policy : PolicyParts) → IsWholePolicy policy → (users : List UserRole) (places : List Place) → contexts_of policy users places ≡ declared_contexts policy → IsDistinct is_same_place places
 declared_distinct policy kept users places all = IsDistinct-from_apart is_same_place places (λ i j d before within. false_from_ne_true _ (λ alike.
     let parts = and_parts (eqb (get_or places j d).row (get_or places i d).row) (eqb (get_or places j d).kind (get_or places i d).kind) alike in
     let row : (get_or places j d).row ≡ (get_or places i d).row = eqb-true _ _ parts.0 in

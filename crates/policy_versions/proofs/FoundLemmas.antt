@@ -1,9 +1,9 @@
 -- Sets of places that grow, and steps that are followed.
-use Rattle.std.proofs.Common.{◌≡◌, ◌<◌, ◌≤◌, ◌+◌, ◌∙◌, ℕ, Bool, true, false, cond, eqb, List, [], ◌∷◌, ◌++◌, length, get_or, Some, refl, sym, ap, subst, arith, below_more, length-append, None, zero, suc}
+use Rattle.std.proofs.Common.{◌≡◌, ◌<◌, ◌≤◌, ◌+◌, ◌∙◌, ℕ, Bool, true, false, cond, eqb, List, [], ◌∷◌, ◌++◌, length, get_or, Some, refl, sym, ap, subst, arith, below_more, length-append, None, zero, suc, ⊎_elim}
 use Rattle.std.specs.Prelude.{◌||◌, ◌&&◌, ◌==◌, slice_get}
 use Rattle.std.specs.List.{list_any, All}
 use Rattle.std.specs.Cmp.{IsEquivalence}
-use Rattle.std.proofs.lemmas.Bool.{and_parts, and_from, or_left, or_right, eqb-true}
+use Rattle.std.proofs.lemmas.Bool.{and_parts, and_from, or_left, or_right, eqb-true, cases_lt}
 use Rattle.std.proofs.lemmas.Bool.Decides.{nat_tests}
 use Rattle.std.proofs.lemmas.Cmp.{nat_eq_equiv}
 use Rattle.std.proofs.lemmas.List.{append-nil, append_assoc, length_push, get_or_append_left, get_or_default}
@@ -11,7 +11,7 @@ use Rattle.std.proofs.lemmas.Option.{slice_get_within, get_or_from_slice_get}
 use Rattle.std.proofs.lemmas.List.Folds.{list_any-append, list_any_at, Any-from_list_any}
 use Rattle.std.proofs.lemmas.List.Elements.{All-push}
 use Rattle.std.proofs.lemmas.Map.Keys.{IsDistinct-push}
-use Rattle.policy_versions.specs.Numbers.{is_place, has_place, with_place, is_marked, object_row}
+use Rattle.policy_versions.specs.Numbers.{is_place, has_place, with_place, is_marked, object_row, AreBelow}
 use Rattle.policy_versions.specs.Users.{HasFront}
 use Rattle.policy_versions.specs.Steps.{IsFollowedTo, IsFollowedBelow}
 use Rattle.policy_versions.specs.Founds.{IsReached, IsInside, is_same_place, Leads, AllLed, AreFollowed}
@@ -183,3 +183,14 @@ pub none_from : {X : Type 0} (xs : List X) (at : ℕ) → None ≡ slice_get xs 
 none_from [] at none = omega arith
 none_from (x ∷ xs) zero none = cc
 none_from (x ∷ xs) (suc at) none = let rest : length xs ≤ at = none_from xs at none in omega arith
+
+-- steps that are followed below a bound from which on there are none
+pub followed_all : (users : List UserRole) (own object : List Bool) (places : List Place) (place : Place) (k bound : ℕ) → bound ≤ k → AreBelow own bound → AreBelow object bound → IsFollowedBelow users own object places place k → IsFollowedBelow users own object places place 128
+followed_all users own object places place k bound past to_own to_object followed kind small =
+    ⊎_elim
+    (λ low. followed kind low)
+    (λ high.
+    let none : is_marked own place.kind kind ≡ false = to_own.none place.kind kind (omega arith) small in
+    let neither : is_marked object place.kind kind ≡ false = to_object.none place.kind kind (omega arith) small in
+    record { to_own = λ marked. cc; to_object = λ marked. cc })
+    (cases_lt kind k)

@@ -18,7 +18,7 @@ use Rattle.flask_sid.specs.declared.context.ContextOf.{ContextOf}
 use Rattle.flask_sid.specs.Contexts.{context_text}
 use Rattle.flask_sid.specs.SidTables.{is_same_context, is_kept, with_context, AreDistinct}
 use Rattle.policy_model.specs.declared.policy.PolicyParts.{PolicyParts}
-use Rattle.policy_model.specs.Kept.{Kept}
+use Rattle.policy_model.specs.Kept.{IsWholePolicy}
 use Rattle.policy_versions.specs.Closure.{IsDerivable, text_order, declared_contexts, AreContexts}
 use Rattle.policy_versions.specs.Numbers.{AreRows, context_at, Derives}
 use Rattle.policy_versions.specs.Users.{HasFront}
@@ -103,7 +103,7 @@ distinct_back : {X : Type 0} (e : X → X → Bool) (front back : List X) → Is
 distinct_back e [] back distinct = distinct
 distinct_back e (x ∷ front) back distinct = distinct_back e front back (IsDistinct-tail e x (front ++ back) distinct)
 
-module _ (policy : PolicyParts) (users : List UserRole) (kept : Kept policy) (rows : AreRows users) where
+module _ (policy : PolicyParts) (users : List UserRole) (kept : IsWholePolicy policy) (rows : AreRows users) where
   -- contexts to which a policy leads, whose texts never fall, have rising texts
   texts_strict : (places : List Place) → AreGood policy users places → AreInTextOrder policy users places → IsStrictlySortedBy text_order (contexts_of policy users places)
   texts_strict places good sorted = strictly_sorted text_order (on_total context_text nat_list_cmp_total) (contexts_of policy users places)
@@ -195,7 +195,7 @@ module _ (policy : PolicyParts) (users : List UserRole) (kept : Kept policy) (ro
     }
 
 -- the places of all contexts to which a policy leads, once those behind the declared ones are in the order of texts
-pub in_order : (policy : PolicyParts) (users : List UserRole) → Kept policy → AreRows users → (places : List Place) (count : ℕ) → count ≤ length places → length places ≤ 4095 → All (IsInside (length users)) places → IsDistinct is_same_place places → AreWhole policy users places → contexts_of policy users (take count places) ≡ declared_contexts policy → (sorted ordered : List Place) → IsPermutation (drop count places) sorted → AreInTextOrder policy users sorted → ordered ≡ take count places ++ sorted → AreOrdered policy users ordered
+pub in_order : (policy : PolicyParts) (users : List UserRole) → IsWholePolicy policy → AreRows users → (places : List Place) (count : ℕ) → count ≤ length places → length places ≤ 4095 → All (IsInside (length users)) places → IsDistinct is_same_place places → AreWhole policy users places → contexts_of policy users (take count places) ≡ declared_contexts policy → (sorted ordered : List Place) → IsPermutation (drop count places) sorted → AreInTextOrder policy users sorted → ordered ≡ take count places ++ sorted → AreOrdered policy users ordered
 in_order policy users kept rows places count low few inside distinct whole begins sorted ordered moves rising all =
     let size : length (take count places) ≡ count = length-take-le count places low in
     ordered_all policy users kept rows (take count places) places ordered begins

@@ -19,7 +19,7 @@ use Rattle.access_vectors.specs.Decisions.{IsClosed}
 use Rattle.policy_model.specs.declared.policy.PolicyParts.{PolicyParts}
 use Rattle.policy_model.specs.declared.policy.Labelling.TheVariants.{Member}
 use Rattle.policy_model.specs.Deciding.{vector_where, vector_of, decided_vector, label_of, member_of, takes_after_maker}
-use Rattle.policy_model.specs.Kept.{Kept}
+use Rattle.policy_model.specs.Kept.{IsWholePolicy}
 use Rattle.policy_versions.specs.declared.contexts.Contexts.{Contexts}
 use Rattle.policy_versions.specs.declared.vectors.VectorRows.{VectorRows}
 use Rattle.policy_versions.specs.declared.given.GivenRows.{GivenRows}
@@ -95,7 +95,7 @@ vector_small : (policy : PolicyParts) (version : ℕ) (s t : List ℕ) (class : 
 unfolding vector_of decided_vector
 vector_small policy version s t class = where_small 16 _ (omega arith)
 
-module _ (policy : PolicyParts) (contexts : Contexts) (given : GivenRows) (kept : Kept policy) (are : AreGivenOf policy given) (numbered : AreNumbered policy contexts.users contexts.places.items contexts.sids contexts.cells.items) where
+module _ (policy : PolicyParts) (contexts : Contexts) (given : GivenRows) (kept : IsWholePolicy policy) (are : AreGivenOf policy given) (numbered : AreNumbered policy contexts.users contexts.places.items contexts.sids contexts.cells.items) where
   -- the place of an identifier
   pub record IsPlaced (sid : ℕ) : Type 0 where
     pub within : sid - 1 < length contexts.places.items

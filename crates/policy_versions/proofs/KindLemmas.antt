@@ -11,7 +11,7 @@ use Rattle.policy_model.specs.declared.policy.KindLine.{KindLine}
 use Rattle.policy_model.specs.declared.policy.AttributeLine.{AttributeLine}
 use Rattle.policy_model.specs.declared.policy.PolicyParts.{PolicyParts}
 use Rattle.policy_model.specs.Declarations.{is_kind, is_attribute}
-use Rattle.policy_model.specs.Kept.{Grows, Kept, MayKind}
+use Rattle.policy_model.specs.Kept.{Grows, IsWholePolicy, MayKind}
 use Rattle.policy_model.specs.Matching.{is_in, means}
 use Rattle.policy_versions.specs.declared.kind_set.KindSet.{KindSet}
 use Rattle.policy_versions.specs.Places.{name_at, kind_at}
@@ -27,7 +27,7 @@ pub name_same : (a b : List ℕ) → a ≡ b → bytes_eq a b ≡ true
 name_same a b h = (bytes_eq-Decides a b).1 h
 
 -- a policy has at most 128 types
-pub kinds_few : (policy : PolicyParts) → Kept policy → length policy.kinds ≤ 128
+pub kinds_few : (policy : PolicyParts) → IsWholePolicy policy → length policy.kinds ≤ 128
 kinds_few policy kept = omega (arith, grows_few MayKind 128 (λ seen kind may. may.few) [] policy.kinds (omega arith) kept.grown.kinds)
 
 -- no line of that kind
@@ -45,7 +45,7 @@ later_differs kinds g s t before within same =
     false≢true (sym may.new ∙ there)
 
 -- no two types have one name
-pub kinds_apart : (policy : PolicyParts) → Kept policy → AreApart policy.kinds
+pub kinds_apart : (policy : PolicyParts) → IsWholePolicy policy → AreApart policy.kinds
 kinds_apart policy kept s t hs ht same =
     ⊎_elim (λ e. e) (λ order. ⊎_elim
     (λ lt. absurd (later_differs policy.kinds kept.grown.kinds s t lt ht same))

@@ -18,7 +18,7 @@ use Rattle.policy_model.specs.declared.policy.Labelling.TheVariants.{Transition,
 use Rattle.policy_model.specs.Declarations.{is_kind, rules_of}
 use Rattle.policy_model.specs.Matching.{matches}
 use Rattle.policy_model.specs.Deciding.{or_else, last_said, kind_given, gives_kind, given_kind, rules_at}
-use Rattle.policy_model.specs.Kept.{Grows, MayContext, MayVerdict, MayRule, MayVersion, Kept}
+use Rattle.policy_model.specs.Kept.{Grows, MayContext, MayVerdict, MayRule, MayVersion, IsWholePolicy}
 use Rattle.policy_versions.specs.Kinds.{IsPlaceOf}
 use Rattle.policy_versions.proofs.GrowsLemmas.{grows_few}
 use Rattle.policy_versions.proofs.KindLemmas.{same_name, no_kind}
@@ -66,7 +66,7 @@ versions_declared kinds attributes labelling s t class seen (one ∷ versions) (
     versions_declared kinds attributes labelling s t class (seen ++ one ∷ []) versions version grows.1 name said
 
 -- what a version gives is a declared type
-pub given_declared : (policy : PolicyParts) → Kept policy → (labelling : Labelling) (version : ℕ) (s t : List ℕ) (class : Class) (name : List ℕ) → given_kind labelling policy version s t class ≡ Some name → is_kind policy.kinds name ≡ true
+pub given_declared : (policy : PolicyParts) → IsWholePolicy policy → (labelling : Labelling) (version : ℕ) (s t : List ℕ) (class : Class) (name : List ℕ) → given_kind labelling policy version s t class ≡ Some name → is_kind policy.kinds name ≡ true
 unfolding given_kind rules_at
 given_declared policy kept labelling version s t class name said =
     versions_declared policy.kinds policy.attributes labelling s t class [] policy.versions version kept.grown.versions name said
@@ -86,8 +86,8 @@ place_of_kind kinds name some =
     (place, record { within = within; named = same_name _ _ (passes_at_first test kinds no_kind within) })
 
 -- there are at most 4,095 declared contexts and 64 versions
-pub few_contexts : (policy : PolicyParts) → Kept policy → length policy.contexts ≤ 4095
+pub few_contexts : (policy : PolicyParts) → IsWholePolicy policy → length policy.contexts ≤ 4095
 few_contexts policy kept = omega (arith, grows_few (MayContext policy.kinds) 4095 (λ seen x may. may.few) [] policy.contexts (omega arith) kept.grown.contexts)
 
-pub few_versions : (policy : PolicyParts) → Kept policy → length policy.versions ≤ 64
+pub few_versions : (policy : PolicyParts) → IsWholePolicy policy → length policy.versions ≤ 64
 few_versions policy kept = omega (arith, grows_few (MayVersion policy.kinds policy.attributes) 64 (λ seen x may. may.few) [] policy.versions (omega arith) kept.grown.versions)

@@ -13,7 +13,7 @@ use Rattle.std.proofs.lemmas.Slice.Eq.{bytes_eq-Decides}
 use Rattle.flask_sid.specs.declared.context.ContextOf.{ContextOf}
 use Rattle.flask_sid.specs.SidTables.{is_same_context, AreDistinct}
 use Rattle.policy_model.specs.declared.policy.PolicyParts.{PolicyParts}
-use Rattle.policy_model.specs.Kept.{Kept}
+use Rattle.policy_model.specs.Kept.{IsWholePolicy}
 use Rattle.policy_versions.specs.Closure.{IsDerivable, HasTooMany}
 use Rattle.policy_versions.specs.Numbers.{is_marked, AreRows, context_at, Derives}
 use Rattle.policy_versions.specs.Users.{HasFront}
@@ -41,7 +41,7 @@ pub record AreGood (policy : PolicyParts) (users : List UserRole) (places : List
   pub distinct : IsDistinct is_same_place places
 
 -- their contexts are different
-pub contexts_distinct : (policy : PolicyParts) (users : List UserRole) → Kept policy → AreRows users → (places : List Place) → AreGood policy users places → AreDistinct (contexts_of policy users places)
+pub contexts_distinct : (policy : PolicyParts) (users : List UserRole) → IsWholePolicy policy → AreRows users → (places : List Place) → AreGood policy users places → AreDistinct (contexts_of policy users places)
 contexts_distinct policy users kept rows places good = IsDistinct-from_apart is_same_context (contexts_of policy users places) (λ i j e before within.
     let d : Place = record { row = 0; kind = 0 } in
     let of_j : j < length places = rw length-map at within in
@@ -55,7 +55,7 @@ contexts_distinct policy users kept rows places good = IsDistinct-from_apart is_
     both_ways _ (apart_from_distinct is_same_place places i j d good.distinct before of_j) alike)))
 
 -- as many places as identifiers, and one more
-pub too_many : (policy : PolicyParts) (users : List UserRole) → Kept policy → AreRows users → (own object : List Bool) (start places : List Place) → ((row kind : ℕ) → Leads users own object start row kind → Derives policy users row kind) → AllLed users own object start places → Overflows users own object start places → HasTooMany policy
+pub too_many : (policy : PolicyParts) (users : List UserRole) → IsWholePolicy policy → AreRows users → (own object : List Bool) (start places : List Place) → ((row kind : ℕ) → Leads users own object start row kind → Derives policy users row kind) → AllLed users own object start places → Overflows users own object start places → HasTooMany policy
 too_many policy users kept rows own object start places leads led over =
     let place : Place = record { row = over.row; kind = over.kind } in
     let good : AreGood policy users (places ++ place ∷ []) = record {

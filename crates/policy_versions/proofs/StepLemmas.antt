@@ -1,13 +1,34 @@
 -- Steps that stay.
-use Rattle.std.proofs.Common.{◌≡◌, ◌<◌, ◌+◌, ◌⊎◌, inl, inr, ℕ, Bool, true, false, cond, List, refl, sym, subst, ◌∙◌, ◌-◌, arith, below_more}
+use Rattle.std.proofs.Common.{◌≡◌, ◌<◌, ◌≤◌, ◌+◌, ◌⊎◌, inl, inr, ℕ, Bool, true, false, cond, List, refl, sym, subst, ◌∙◌, ◌-◌, arith, below_more}
 use Rattle.std.specs.Prelude.{◌||◌, ◌&&◌, ◌==◌}
 use Rattle.std.proofs.lemmas.Bool.{both_ways, or_cases, or_right, and_parts, and_from, eqb-true, eq-eqb}
+use Rattle.std.proofs.lemmas.Bool.Decides.{nat_tests}
 use Rattle.access_vectors.specs.declared.class.Class.{Class}
 use Rattle.policy_model.specs.Deciding.{takes_after_maker}
 use Rattle.policy_model.specs.declared.policy.Labelling.TheVariants.{Transition, Member}
 use Rattle.policy_versions.specs.Gives.{GivenPlaces, GivesAs}
-use Rattle.policy_versions.specs.Numbers.{is_marked, made_kind}
+use Rattle.policy_versions.specs.Numbers.{is_marked, made_kind, AreBelow}
 use Rattle.policy_versions.specs.Steps.{StayMarked, TakesClass, Takes, TakesTargets, TakesSources, TakesVersions, GivesOwn, GivesObject, OnlyGives, IsDue, AreDue}
+
+-- a bound that is not lower
+pub bound_more : (cells : List Bool) (bound more : ℕ) → bound ≤ more → more ≤ 128 → AreBelow cells bound → AreBelow cells more
+bound_more cells bound more low within below =
+    record { within = within; none = λ row kind high small. below.none row kind (omega arith) small }
+
+-- one mark more, of a type below a bound
+pub below_marked : (before after : List Bool) (row kind bound next : ℕ) → bound ≤ next → kind < next → next ≤ 128 → ((r k : ℕ) → k < 128 → is_marked after r k ≡ (is_marked before r k || (row == r && kind == k))) → AreBelow before bound → AreBelow after next
+below_marked before after row kind bound next low here within marks below =
+    record {
+      within = within;
+      none = λ r k high small.
+          (let none : is_marked before r k ≡ false = below.none r k (omega arith) small in
+          let apart : (kind == k) ≡ false = grind (arith, nat_tests) in
+          marks r k small ∙ rw (none, apart) (neither (row == r)));
+    }
+  where
+    neither : (b : Bool) → (false || (b && false)) ≡ false
+    neither true = refl
+    neither false = refl
 
 -- a mark in one of two tables stays where both stay
 pub either_stays : (b : Bool) (own object own' object' : List Bool) (row kind : ℕ) → StayMarked own own' → StayMarked object object' → is_marked (cond b own object) row kind ≡ true → is_marked (cond b own' object') row kind ≡ true

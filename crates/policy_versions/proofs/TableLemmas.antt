@@ -10,7 +10,7 @@ use Rattle.policy_model.specs.declared.policy.PolicyParts.{PolicyParts}
 use Rattle.policy_model.specs.declared.policy.RuleLine.{RuleLine}
 use Rattle.policy_model.specs.declared.policy.Version.{Version}
 use Rattle.policy_model.specs.Declarations.{rules_of}
-use Rattle.policy_model.specs.Kept.{Grows, Kept, MayVersion, MayRule}
+use Rattle.policy_model.specs.Kept.{Grows, IsWholePolicy, MayVersion, MayRule}
 use Rattle.policy_model.specs.declared.policy.Labelling.TheVariants.{Transition, Member}
 use Rattle.policy_model.specs.Deciding.{rules_at, given_kind}
 use Rattle.policy_versions.specs.declared.change.Content.{Content}
@@ -18,7 +18,7 @@ use Rattle.policy_versions.specs.declared.change.Content.TheVariants.{Given}
 use Rattle.policy_versions.specs.declared.given.GivenRows.{GivenRows}
 use Rattle.policy_versions.specs.declared.row.Row.{Row}
 use Rattle.policy_versions.specs.declared.table.Table.{Table}
-use Rattle.policy_versions.specs.Changes.{no_row, Tells, AllTell, AreRules}
+use Rattle.policy_versions.specs.Changes.{no_row, AreBlank, Tells, AllTell, AreRules}
 use Rattle.policy_versions.specs.Given.{AreGivenOf}
 use Rattle.policy_model.specs.Matching.{is_same_class}
 use Rattle.access_vectors.specs.Table.{code_of}
@@ -45,6 +45,18 @@ pub keeps_front : (rows block : List Row) → KeepsRows rows (rows ++ block)
 keeps_front rows block =
     let size : length (rows ++ block) ≡ length rows + length block = length-append rows block in
     record { grows = omega arith; same = λ place h. get_or_append_left rows block no_row place h }
+
+-- blank rows that stay
+pub blank_on : (before after : List Row) → KeepsRows before after → AreBlank before → AreBlank after
+blank_on before after keeps blank =
+    let within : 128 ≤ length before = blank.within in
+    let grows : length before ≤ length after = keeps.grows in
+    record { within = omega arith; same = λ s h. keeps.same s (omega arith) ∙ blank.same s h }
+
+-- a blank block stands where the rows are blank
+pub blank_stands : (rows block : List Row) → AreBlank rows → AreBlank block → StandsAt rows block 0
+blank_stands rows block here there =
+    record { within = here.within; same = λ s h. (let at : 0 + s ≡ s = omega arith in rw at (here.same s h ∙ sym (there.same s h))) }
 
 -- rows that are put behind others
 pub stands_behind : (rows block : List Row) → length block ≡ 128 → StandsAt (rows ++ block) block (length rows)
@@ -138,14 +150,14 @@ stand_more before after blocks block firsts at first whole size small is keeps h
     (cases_eq k at)
 
 -- the rule lines of a kept policy name what is declared
-pub version_rules : (policy : PolicyParts) → Kept policy → (i : ℕ) (version : Version) → i < length policy.versions → version ≡ get_or policy.versions i version → AreRules policy version.rules
+pub version_rules : (policy : PolicyParts) → IsWholePolicy policy → (i : ℕ) (version : Version) → i < length policy.versions → version ≡ get_or policy.versions i version → AreRules policy version.rules
 version_rules policy kept i version within read k d h =
     let may : MayVersion policy.kinds policy.attributes (take i policy.versions) (get_or policy.versions i version) = grows_at (MayVersion policy.kinds policy.attributes) [] policy.versions kept.grown.versions i version within in
     let rules : Grows (MayRule policy.kinds policy.attributes) [] version.rules = subst (λ (v : Version). Grows (MayRule policy.kinds policy.attributes) [] v.rules) (sym read) may.rules in
     (grows_at (MayRule policy.kinds policy.attributes) [] version.rules rules k d h).good
 
 -- a kept policy has at most 64 versions
-pub versions_few : (policy : PolicyParts) → Kept policy → length policy.versions ≤ 64
+pub versions_few : (policy : PolicyParts) → IsWholePolicy policy → length policy.versions ≤ 64
 versions_few policy kept = omega (arith, grows_few (MayVersion policy.kinds policy.attributes) 64 (λ seen version may. may.few) [] policy.versions (omega arith) kept.grown.versions)
 
 -- the rule lines of a version

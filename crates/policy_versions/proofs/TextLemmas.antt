@@ -13,7 +13,7 @@ use Rattle.policy_model.specs.declared.policy.PolicyParts.{PolicyParts}
 use Rattle.policy_model.specs.declared.policy.Labelling.TheVariants.{Member}
 use Rattle.policy_model.specs.Declarations.{is_kind}
 use Rattle.policy_model.specs.Deciding.{given_kind, label_of, member_of, takes_after_maker, object_role}
-use Rattle.policy_model.specs.Kept.{Grows, is_kind_name, MayKind, MayContext, Kept}
+use Rattle.policy_model.specs.Kept.{Grows, is_kind_name, MayKind, MayContext, IsWholePolicy}
 use Rattle.policy_versions.specs.Closure.{IsDerivable, declared, label, member}
 use Rattle.policy_versions.proofs.NameLemmas.{place_of_kind}
 use Rattle.policy_versions.proofs.GrowsLemmas.{grows_at}
@@ -120,7 +120,7 @@ member_holder policy version s t class of_s of_t = by_given _ refl
     by_given None e = rw e of_t
     by_given (Some name) e = rw e (record { user = of_s.user; role = refl })
 
-holder : (policy : PolicyParts) → Kept policy → (context : ContextOf (List ℕ)) → IsDerivable policy context → HasHolder context
+holder : (policy : PolicyParts) → IsWholePolicy policy → (context : ContextOf (List ℕ)) → IsDerivable policy context → HasHolder context
 holder policy kept _ (declared context is) =
     subst HasHolder is.2 (declared_holder policy.kinds [] policy.contexts kept.grown.contexts is.0 context is.1)
 holder policy kept _ (label version s t class below of_s of_t) = label_holder policy version s t class (holder policy kept s of_s)
@@ -133,7 +133,7 @@ kind_named kinds seen grows name is =
     let may = grows_at MayKind seen kinds grows found.0 no_kind found.1.within in
     subst (λ one. has_no_colon one ≡ true) found.1.named (kind_colon _ may.named)
 
-pub has_names : (policy : PolicyParts) → Kept policy → (context : ContextOf (List ℕ)) → IsDerivable policy context → HasNames context
+pub has_names : (policy : PolicyParts) → IsWholePolicy policy → (context : ContextOf (List ℕ)) → IsDerivable policy context → HasNames context
 has_names policy kept context derives =
     let names = holder policy kept context derives in
     record { user = names.user; role = names.role; kind = kind_named policy.kinds [] kept.grown.kinds context.kind (kind_declared policy kept context derives) }

@@ -1,5 +1,5 @@
 -- Cells, and what a line does to the cells that it matches.
-use Rattle.std.specs.Prelude.{◌≡◌, ℕ, ◌+◌, ◌-◌, ◌<◌, ◌≤◌, Bool, true, ◌&&◌, List, [], length, slice_index, slice_index_or, Option, Some, None, if◌then◌else◌, bit_and, bit_or, nat_lt, nat_le}
+use Rattle.std.specs.Prelude.{◌≡◌, ℕ, ◌+◌, ◌-◌, ◌<◌, ◌≤◌, Bool, true, ◌&&◌, List, [], length, replicate, slice_index, slice_index_or, Option, Some, None, if◌then◌else◌, bit_and, bit_or, nat_lt, nat_le}
 use Rattle.std.specs.List.{All}
 use Rattle.std.specs.Option.{option_map}
 use Rattle.access_vectors.specs.declared.class.Class.{Class}
@@ -30,6 +30,15 @@ changed_if applies change cell = if applies then changed change cell else cell
 -- a row with no cell
 abbrev pub no_row : Row
 no_row = record { cells = [] }
+
+-- a row whose cells are all 0
+abbrev pub blank_row : Row
+blank_row = record { cells = replicate 128 0 }
+
+-- the first 128 of these rows are there, and blank
+pub record AreBlank (rows : List Row) : Type 0 where
+  pub within : 128 ≤ length rows
+  pub same : (s : ℕ) → s < 128 → slice_index_or rows s no_row ≡ blank_row
 
 -- the cell of a source and a target in rows of which each is a source's
 abbrev pub cell_of : List Row → ℕ → ℕ → ℕ

@@ -1,5 +1,5 @@
 -- Contexts by numbers: a row for each user with a role, and a column for each type.
-use Rattle.std.specs.Prelude.{◌≡◌, ℕ, ◌+◌, ◌*◌, ◌<◌, ◌&&◌, ◌==◌, Bool, false, List, [], ◌∷◌, ◌++◌, length, slice_index_or, unwrap_or, if◌then◌else◌}
+use Rattle.std.specs.Prelude.{◌≡◌, ℕ, ◌+◌, ◌*◌, ◌<◌, ◌≤◌, ◌&&◌, ◌==◌, Bool, false, List, [], ◌∷◌, ◌++◌, length, slice_index_or, unwrap_or, if◌then◌else◌}
 use Rattle.std.specs.List.{list_any}
 use Rattle.std.specs.Str.{bytes_eq}
 use Rattle.flask_sid.specs.declared.context.ContextOf.{ContextOf}
@@ -62,6 +62,11 @@ with_place places place = if has_place places place.row place.kind then places e
 -- the cell of a row and a type is marked
 unfoldable pub is_marked : List Bool → ℕ → ℕ → Bool
 is_marked cells row kind = slice_index_or cells (row * 128 + kind) false
+
+-- from this place on no type is marked in any row
+pub record AreBelow (cells : List Bool) (bound : ℕ) : Type 0 where
+  pub within : bound ≤ 128
+  pub none : (row kind : ℕ) → bound ≤ kind → kind < 128 → is_marked cells row kind ≡ false
 
 -- the policy leads to the context of a row and a type
 abbrev pub Derives : PolicyParts → List UserRole → ℕ → ℕ → Type 0

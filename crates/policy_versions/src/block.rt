@@ -1,12 +1,12 @@
 //! The rows of one version and class while its lines are drawn into them.
 
-ghost use Rattle.std.specs.Prelude.{◌≡◌, ℕ, ◌<◌, ◌&&◌, ◌==◌, ◌∷◌, ◌++◌, [], List, length};
+ghost use Rattle.std.specs.Prelude.{◌≡◌, ℕ, ◌<◌, ◌&&◌, ◌==◌, ◌∷◌, ◌++◌, [], false, List, length};
 ghost use Rattle.policy_model.specs.declared.policy.PolicyParts.{PolicyParts};
 ghost use Rattle.policy_model.specs.declared.policy.RuleLine.{RuleLine};
 ghost use Rattle.policy_model.specs.Kept.{IsRule};
 ghost use Rattle.policy_versions.specs.Sets.{has_place};
 ghost use Rattle.policy_versions.specs.Kinds.{AreKindsOf};
-ghost use Rattle.policy_versions.specs.Changes.{cell_of, AreChanged, AreMatchedChanged, AllTell};
+ghost use Rattle.policy_versions.specs.Changes.{cell_of, AreBlank, AreChanged, AreMatchedChanged, AllTell};
 
 use crate::change::{Change, Content, change_of};
 use crate::kind_set::KindSet;
@@ -20,23 +20,33 @@ use std::alloc::Global;
 #[derive(Drop)]
 pub(crate) struct Block {
     pub(crate) rows: Vec<Row>,
+    /// Whether lines may have been drawn into the rows. Where none was, no time goes into rows that stay blank.
+    pub(crate) is_drawn: bool,
     ghost whole: { length rows.items ≡ 128 },
+    ghost blank: { is_drawn ≡ false → AreBlank rows.items },
 }
 
 impl Block {
     /// A block for drawing.
     pub(crate) fn new(alloc: Global) -> Result<Block, Memory> {
         let rows = vec![in alloc; Row::empty(); 128]?;
-        Ok(Block { rows })
+        Ok(Block {
+            rows,
+            is_drawn: false,
+        })
     }
 
     /// Nothing is drawn yet.
     pub(crate) fn clear(&mut self)
         ensures { (s t : ℕ) → s < 128 → cell_of self.new.rows.items s t ≡ 0 }
     {
+        if !self.is_drawn {
+            return;
+        }
         for row in self.rows.iter_mut() {
             *row = Row::empty();
         }
+        self.is_drawn = false;
     }
 
     /// Draws one rule line more.
@@ -66,6 +76,7 @@ impl Block {
         ensures { AreChanged (λ s t. has_place sources.now.words s && has_place targets.now.words t) change
             self.old.rows.items self.new.rows.items }
     {
+        self.is_drawn = true;
         let mut s = usize::from(sources.links[0]);
         'sources: while s < 128 {
             if sources.words[s] != 0 {
@@ -80,6 +91,7 @@ impl Block {
         ensures { AreChanged (λ s t. has_place sources.now.words s && (s == t)) change
             self.old.rows.items self.new.rows.items }
     {
+        self.is_drawn = true;
         let mut s = usize::from(sources.links[0]);
         'sources: while s < 128 {
             if sources.words[s] != 0 {

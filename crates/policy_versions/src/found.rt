@@ -152,7 +152,7 @@ impl Found {
         ensures full { (start : List Place) → Leads users.now steps.now.own steps.now.object start row s
             → result ≡ Err fill_fault.TooMany → Overflows users.now steps.now.own steps.now.object start self.new.places }
     {
-        'kinds: for k in 0..128usize {
+        'kinds: for k in 0..steps.bound() {
             self.follow_to(row, s, Kind::at(k), steps, users)?;
         }
         Ok(())

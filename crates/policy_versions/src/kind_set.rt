@@ -1,6 +1,6 @@
 //! A set of types that a walk goes over in few steps.
 
-ghost use Rattle.std.specs.Prelude.{◌≡◌, ℕ, ◌<◌, ◌≤◌, ◌==◌, ◌||◌, true, false, min, slice_index};
+ghost use Rattle.std.specs.Prelude.{◌≡◌, ℕ, ◌<◌, ◌≤◌, ◌==◌, ◌||◌, true, false, min, slice_index, IfSome};
 ghost use Rattle.policy_versions.specs.Sets.{has_place, AreLinks};
 
 use crate::kind::Kind;
@@ -41,6 +41,19 @@ impl KindSet {
         ensures { result ≡ has_place self.now.words kind }
     {
         self.words[usize::from(kind.place())] != 0
+    }
+
+    /// The place of the only type in the set, where the links tell that there is no other.
+    pub(crate) fn only(&self) -> Option<usize>
+        ensures within { IfSome result (λ one. one < 128) }
+        ensures alone { IfSome result (λ one. (place : ℕ) → place < 128 → has_place self.now.words place ≡ (one == place)) }
+    {
+        let first = usize::from(self.links[0]);
+        if first < 128 && self.words[first] != 0 && self.links[first + 1] == 128 {
+            Some(first)
+        } else {
+            None
+        }
     }
 
     /// Puts the type at a place into the set.

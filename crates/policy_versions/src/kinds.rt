@@ -6,7 +6,7 @@ ghost use Rattle.std.specs.Str.{bytes_eq};
 ghost use Rattle.std.specs.HashMap.{get};
 ghost use Rattle.policy_model.specs.declared.policy.PolicyParts.{PolicyParts};
 ghost use Rattle.policy_model.specs.Declarations.{is_kind};
-ghost use Rattle.policy_model.specs.Kept.{Kept};
+ghost use Rattle.policy_model.specs.Kept.{IsWholePolicy};
 ghost use Rattle.policy_versions.specs.Sets.{has_place};
 ghost use Rattle.policy_versions.specs.Places.{name_at};
 ghost use Rattle.policy_versions.specs.Kinds.{AreKindsOf, ArePlaces, AreSets, IsPlaceOf, IsSetOf, IsSourceSet};

@@ -1,7 +1,7 @@
 //! Marks on contexts, a row of types for each user and role.
 
 ghost use Rattle.std.specs.Prelude.{◌≡◌, ℕ, ◌+◌, ◌*◌, ◌<◌, ◌≤◌, ◌&&◌, ◌||◌, ◌==◌, false, length, IfOk};
-ghost use Rattle.policy_versions.specs.Numbers.{is_marked};
+ghost use Rattle.policy_versions.specs.Numbers.{is_marked, AreBelow};
 ghost use Rattle.policy_versions.specs.Steps.{StayMarked};
 
 use crate::kind::Kind;
@@ -13,14 +13,19 @@ use std::marker::Model;
 #[derive(Drop)]
 pub(crate) struct Marks {
     cells: Vec<bool>,
+    /// The types from this place on are marked in no row.
+    bound: usize,
 }
 
 impl Model for Marks {
     ghost use Rattle.std.specs.Prelude.{List, Bool};
+    ghost use Rattle.policy_versions.specs.Numbers.{AreBelow};
 
     ghost Value = { List Bool };
 
     ghost view = { λ marks. marks.cells.items };
+
+    ghost invariant = { λ marks. AreBelow marks.cells.items marks.bound };
 }
 
 impl Marks {
@@ -32,6 +37,7 @@ impl Marks {
     {
         Ok(Marks {
             cells: vec![in alloc; false; usize::from(rows) * 128]?,
+            bound: 0,
         })
     }
 
@@ -49,15 +55,33 @@ impl Marks {
     }
 
     /// Marks the cell of a row and a type.
-    #[tactic(auto, unfolding(crate::specs::Numbers::is_marked))]
     pub(crate) fn mark(&mut self, row: u16, kind: Kind)
         requires { row * 128 + 128 ≤ length self.old }
         ensures size { length self.new ≡ length self.old }
         ensures stays { StayMarked self.old self.new }
         ensures marks { (r k : ℕ) → k < 128 → is_marked self.new r k ≡ (is_marked self.old r k || (row == r && kind == k)) }
     {
-        self.cells[cell_of(row, kind)] = true;
+        mark_cell(&mut self.cells, row, kind);
+        self.bound = self.bound.max(usize::from(kind.place()) + 1);
     }
+
+    /// A place from which on no type is marked in any row, so that a walk over the types may end there.
+    pub(crate) fn bound(&self) -> usize
+        ensures { AreBelow self.now result }
+    {
+        self.bound
+    }
+}
+
+#[tactic(auto, unfolding(crate::specs::Numbers::is_marked))]
+fn mark_cell(cells: &mut Vec<bool>, row: u16, kind: Kind)
+    requires { row * 128 + 128 ≤ length cells.old.items }
+    ensures size { length cells.new.items ≡ length cells.old.items }
+    ensures stays { StayMarked cells.old.items cells.new.items }
+    ensures marks { (r k : ℕ) → k < 128 → is_marked cells.new.items r k ≡ (is_marked cells.old.items r k || (row == r && kind == k)) }
+    ensures within { kind < 128 }
+{
+    cells[cell_of(row, kind)] = true;
 }
 
 fn cell_of(row: u16, kind: Kind) -> usize

@@ -2,7 +2,7 @@
 
 ghost use Rattle.std.specs.Prelude.{◌≡◌, ℕ, ◌<◌, ◌==◌, true, false, slice_index, bit_and};
 ghost use Rattle.policy_versions.specs.Sets.{has_place};
-ghost use Rattle.policy_versions.specs.Changes.{changed_if};
+ghost use Rattle.policy_versions.specs.Changes.{blank_row, changed_if};
 
 use crate::change::Change;
 use crate::kind_set::KindSet;
@@ -17,13 +17,25 @@ pub(crate) struct Row {
 impl Row {
     /// The row whose cells are all 0.
     pub(crate) fn empty() -> Row
-        ensures { (t : ℕ) → slice_index result.cells t ≡ 0 }
+        ensures cells { (t : ℕ) → slice_index result.cells t ≡ 0 }
+        ensures blank { result ≡ blank_row }
     {
         Row { cells: [0; 128] }
     }
 
     /// Changes the cells of the targets in a set.
     pub(crate) fn change(&mut self, targets: &KindSet, change: Change)
+        ensures { (t : ℕ) → t < 128 → slice_index self.new.cells t
+            ≡ changed_if (has_place targets.now.words t) change (slice_index self.old.cells t) }
+    {
+        match targets.only() {
+            Some(target) => self.change_one(target, change),
+            None => self.change_each(targets, change),
+        }
+    }
+
+    // Changes the cells of the targets in a set, by a walk over all cells.
+    fn change_each(&mut self, targets: &KindSet, change: Change)
         ensures { (t : ℕ) → t < 128 → slice_index self.new.cells t
             ≡ changed_if (has_place targets.now.words t) change (slice_index self.old.cells t) }
     {

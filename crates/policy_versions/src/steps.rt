@@ -3,7 +3,7 @@
 ghost use Rattle.std.specs.Prelude.{◌≡◌, ℕ, ◌<◌, false, true, length, Some, IfOk, if◌then◌else◌};
 ghost use Rattle.policy_model.specs.declared.policy.Labelling.TheVariants as labelling;
 ghost use Rattle.policy_model.specs.Deciding as decide;
-ghost use Rattle.policy_versions.specs.Numbers.{is_marked, made_kind};
+ghost use Rattle.policy_versions.specs.Numbers.{is_marked, made_kind, AreBelow};
 ghost use Rattle.policy_versions.specs.Given.{given_at};
 ghost use Rattle.policy_versions.specs.Steps.{StayMarked, TakesClass, Takes, TakesTargets, TakesSources, TakesVersions, OnlyGives, AreDue};
 
@@ -40,6 +40,14 @@ impl Steps {
         ensures within { kind < 128 }
     {
         self.object.has(u16::from(s.place()), kind)
+    }
+
+    /// A place from which on there is no step to a type.
+    pub(crate) fn bound(&self) -> usize
+        ensures own { AreBelow self.now.own result }
+        ensures object { AreBelow self.now.object result }
+    {
+        self.own.bound().max(self.object.bound())
     }
 
     /// The steps that versions make for sources and targets of the present types. A version that gives what the one before it

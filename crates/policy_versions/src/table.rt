@@ -3,7 +3,7 @@
 ghost use Rattle.std.specs.Prelude.{◌≡◌, ℕ, ◌+◌, ◌<◌, ◌≤◌, length, slice_get, slice_index, IfOk, OnOk, IsTrue, MatchOption};
 ghost use Rattle.policy_model.specs.declared.policy.PolicyParts.{PolicyParts};
 ghost use Rattle.policy_versions.specs.Kinds.{AreKindsOf};
-ghost use Rattle.policy_versions.specs.Changes.{AreRules};
+ghost use Rattle.policy_versions.specs.Changes.{AreBlank, AreRules};
 ghost use Rattle.policy_versions.specs.Cells.{cell_at, class_place, StandsAt, KeepsRows, AllTellFrom, TableTells};
 
 use crate::block::Block;
@@ -97,7 +97,8 @@ fn draw_version(
     rules: &[RuleLine],
     before: [u32; 5],
 ) -> Result<[u32; 5], Memory>
-    requires { length rows.old.items ≤ 65536 }
+    requires few { length rows.old.items ≤ 65536 }
+    requires blank { AreBlank rows.old.items }
     ensures few { OnOk result (length rows.new.items ≤ length rows.old.items + 640) }
     ensures keeps { OnOk result (KeepsRows rows.old.items rows.new.items) }
     ensures tell { IfOk result (λ firsts. (policy : PolicyParts) → AreKindsOf policy kinds.now → AreRules policy rules.now
@@ -112,13 +113,17 @@ fn draw_version(
 }
 
 // The place from which a block's rows stand: at the front or at `before` where they stand there already, and else
-// behind all others.
+// behind all others. The rows at the front are blank.
 fn place(rows: &mut Vec<Row>, block: &Block, before: u32) -> Result<u32, Memory>
-    requires { length rows.old.items ≤ 131072 }
+    requires few { length rows.old.items ≤ 131072 }
+    requires blank { AreBlank rows.old.items }
     ensures few { OnOk result (length rows.new.items ≤ length rows.old.items + 128) }
     ensures keeps { OnOk result (KeepsRows rows.old.items rows.new.items) }
     ensures stands { IfOk result (λ first. StandsAt rows.new.items block.now.rows.items first) }
 {
+    if !block.is_drawn {
+        return Ok(0);
+    }
     if stands_at(rows, block, 0) {
         return Ok(0);
     }

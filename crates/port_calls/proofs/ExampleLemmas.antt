@@ -8,7 +8,7 @@ use Rattle.access_vectors.specs.Perms.{port_name_bind, port_recv, port_send, por
 use Rattle.access_vectors.specs.Vectors.{has}
 use Rattle.access_vectors.specs.declared.asked.Asked.{Asked}
 use Rattle.mode_questions.specs.Requests.{Request}
-use Rattle.port_calls.specs.Plain.{request_of}
+use Rattle.port_calls.specs.PlainManager.{request_of}
 use Rattle.port_calls.specs.States.{Bound, Held, PortState, PortAnswer, opened_with, asking_whole, after_asking}
 use Rattle.port_calls.specs.Rows.{bind_into, bound_at, connect_into, connected_at, used, with_bound, sent, received, is_on_port, slots_without, unbound_at}
 use Rattle.port_calls.specs.declared.call.PortCall.{PortCall}

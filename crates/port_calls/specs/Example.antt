@@ -6,7 +6,7 @@ use Rattle.port_calls.specs.declared.opening.PortOpening.{PortOpening}
 use Rattle.port_calls.specs.declared.call.PortCall.{PortCall}
 use Rattle.port_calls.specs.declared.call.PortCall.TheVariants.{Bind, Connect, Push, Recv, Unbind}
 use Rattle.port_calls.specs.declared.call.PortReply.TheVariants.{Done, Bytes, Empty, BadSlot}
-use Rattle.port_calls.specs.Plain.{answer}
+use Rattle.port_calls.specs.PlainManager.{answer}
 use Rattle.port_calls.specs.States.{PortState, PortAnswer, opened_with}
 
 -- two clients, and one port with a label of its own

@@ -13,7 +13,7 @@ use Rattle.mode_questions.specs.Honesty as honest
 use Rattle.mode_questions.specs.Requests.{Request}
 use Rattle.port_calls.specs.States.{Bound, Held, PortState, PortAnswer, label_of, message_limit, byte_limit, mode_perms, asking_whole, saying, asking, after_asking}
 use Rattle.port_calls.specs.Rows.{bound_at, bind_into, connected_at, connect_into, with_bound, used, with_messages, received, sent, with_port, is_binding, unbound, freed, unbound_at}
-use Rattle.port_calls.specs.Plain.{answered, answer, request_of, denial_of, IsFormed}
+use Rattle.port_calls.specs.PlainManager.{answered, answer, request_of, denial_of, IsFormed}
 use Rattle.port_calls.specs.declared.opening.PortOpening.{PortOpening}
 use Rattle.port_calls.specs.declared.call.PortCall.{PortCall}
 use Rattle.port_calls.specs.declared.call.PortCall.TheVariants as call

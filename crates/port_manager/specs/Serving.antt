@@ -11,17 +11,17 @@ use Rattle.mode_questions.specs.Requests.{Request}
 use Rattle.mode_questions.specs.Operations.{request, IsSameOperation, HasAsked, HasUsed}
 use Rattle.mode_questions.specs.declared.operation.Operation.{Operation}
 use Rattle.retained_rights.specs.declared.grant.Usable.{Usable}
-use Rattle.port_calls.specs.Plain.{answered, followed_by, use_of, denial_of, when_done}
+use Rattle.port_calls.specs.PlainManager.{answered, followed_by, use_of, denial_of, when_done}
 use Rattle.port_calls.specs.States.{Bound, PortAnswer, sid_of}
 use Rattle.port_calls.specs.declared.call.PortCall.{PortCall}
 use Rattle.port_calls.specs.declared.call.PortReply.{PortReply}
 use Rattle.port_calls.specs.declared.call.PortReply.TheVariants as reply
-use Rattle.port_store.specs.Stores.{Shown, Safe, state_of, follows}
+use Rattle.port_store.specs.Stores.{StoreView, Safe, state_of, follows}
 use Rattle.port_store.specs.Uses.{IsUse}
 
 -- ports may serve a request: they keep their promise under its decider, its client is one of theirs, its subject is the
 -- client's identifier, and its number may be named, with its version
-pub record MayServe (shown : Shown) (r : Request) : Type 0 where
+pub record MayServe (shown : StoreView) (r : Request) : Type 0 where
   pub safe : Safe r.decisions shown
   pub client : r.client < length shown.opening.clients
   pub subject : sid_of (state_of shown) r.client ≡ r.subject
@@ -29,18 +29,18 @@ pub record MayServe (shown : Shown) (r : Request) : Type 0 where
   pub version : r.version ≡ version_at shown.rights.phase r.number
 
 -- ports keep their promise under a decider, what they were opened with, and where the change of policy stands
-pub record Keeps (d : Decisions) (old new : Shown) : Type 0 where
+pub record Keeps (d : Decisions) (old new : StoreView) : Type 0 where
   pub safe : Safe d new
   pub opening : new.opening ≡ old.opening
   pub phase : new.rights.phase ≡ old.rights.phase
 
 -- a slot of a place follows the number of a request
-abbrev pub is_following : Shown → ℕ → Request → Bool
+abbrev pub is_following : StoreView → ℕ → Request → Bool
 is_following shown place r = is_use_following (Some place) (follows shown) r.number
 
 -- the rest of a row for a request, which asks and denies nothing more, replies and changes the state as the plain rest says,
 -- and what the slots follow stays; want of memory leaves the ports as they were
-abbrev pub Ends : Request → Result PortReply Memory → Shown → Shown → PortAnswer → Type 0
+abbrev pub Ends : Request → Result PortReply Memory → StoreView → StoreView → PortAnswer → Type 0
 Ends r (Ok said) old new answer =
     (said ≡ answer.reply) × (denial_of said ≡ None) × (state_of new ≡ answer.state) × (answer.asked ≡ []) × (follows new ≡ follows old)
     × Keeps r.decisions old new
@@ -48,13 +48,13 @@ Ends r (Err memory) old new answer = new ≡ old
 
 module _ {A : Type 0} {g : Ghosts A} where
   -- a row that changes nothing replies and asks as the plain row says, which leaves the state as it is
-  abbrev pub Says : Result PortReply Memory → Shown → Operation A g → Operation A g → PortAnswer → Type 0
+  abbrev pub Says : Result PortReply Memory → StoreView → Operation A g → Operation A g → PortAnswer → Type 0
   Says (Ok said) shown before after answer =
       (said ≡ answer.reply) × (state_of shown ≡ answer.state) × HasAsked before after answer.asked
   Says (Err memory) shown before after answer = IsSameOperation before after
 
   -- the same through the slot of a place
-  abbrev pub SaysThrough : ℕ → Result PortReply Memory → Shown → Operation A g → Operation A g → PortAnswer → Type 0
+  abbrev pub SaysThrough : ℕ → Result PortReply Memory → StoreView → Operation A g → Operation A g → PortAnswer → Type 0
   SaysThrough place (Ok said) shown before after answer =
       (said ≡ answer.reply) × (state_of shown ≡ answer.state)
       × HasUsed (is_following shown place (request before)) (is_some (denial_of said)) before after answer.asked
@@ -62,14 +62,14 @@ module _ {A : Type 0} {g : Ghosts A} where
 
   -- a row replies, changes the state and asks as the plain row says, and what the slots follow stays; want of memory leaves
   -- the ports as they were
-  abbrev pub Serves : Result PortReply Memory → Shown → Shown → Operation A g → Operation A g → PortAnswer → Type 0
+  abbrev pub Serves : Result PortReply Memory → StoreView → StoreView → Operation A g → Operation A g → PortAnswer → Type 0
   Serves (Ok said) old new before after answer =
       (said ≡ answer.reply) × (state_of new ≡ answer.state) × (follows new ≡ follows old)
       × Keeps (request before).decisions old new × HasAsked before after answer.asked
   Serves (Err memory) old new before after answer = (new ≡ old) × IsSameOperation before after
 
   -- the same through the slot of a place
-  abbrev pub ServesThrough : ℕ → Result PortReply Memory → Shown → Shown → Operation A g → Operation A g → PortAnswer → Type 0
+  abbrev pub ServesThrough : ℕ → Result PortReply Memory → StoreView → StoreView → Operation A g → Operation A g → PortAnswer → Type 0
   ServesThrough place (Ok said) old new before after answer =
       (said ≡ answer.reply) × (state_of new ≡ answer.state) × (follows new ≡ follows old)
       × Keeps (request before).decisions old new
@@ -77,14 +77,14 @@ module _ {A : Type 0} {g : Ghosts A} where
   ServesThrough place (Err memory) old new before after answer = (new ≡ old) × IsSameOperation before after
 
   -- the same of a row that, where it is done, lets the slots follow this
-  abbrev pub ServesSlots : Follows → Result PortReply Memory → Shown → Shown → Operation A g → Operation A g → PortAnswer → Type 0
+  abbrev pub ServesSlots : Follows → Result PortReply Memory → StoreView → StoreView → Operation A g → Operation A g → PortAnswer → Type 0
   ServesSlots changed (Ok said) old new before after answer =
       (said ≡ answer.reply) × (state_of new ≡ answer.state) × (follows new ≡ when_done said changed (follows old))
       × Keeps (request before).decisions old new × HasAsked before after answer.asked
   ServesSlots changed (Err memory) old new before after answer = (new ≡ old) × IsSameOperation before after
 
   -- the same of any call
-  abbrev pub ServesCall : PortCall → Result PortReply Memory → Shown → Shown → Operation A g → Operation A g → Type 0
+  abbrev pub ServesCall : PortCall → Result PortReply Memory → StoreView → StoreView → Operation A g → Operation A g → Type 0
   ServesCall call (Ok said) old new before after =
       let r = request before in
       let answer = answered r (state_of old) call in
@@ -95,7 +95,7 @@ module _ {A : Type 0} {g : Ghosts A} where
 
 -- for a request, the use of a slot of its client, on a bound port; where the slot follows the request's number, its bits are
 -- the whole mode or none, as the policy allows
-pub record IsHeld (r : Request) (shown : Shown) (slot : ℕ) (usable : Usable) : Type 0 where
+pub record IsHeld (r : Request) (shown : StoreView) (slot : ℕ) (usable : Usable) : Type 0 where
   pub usage : IsUse r.decisions shown r.client slot usable
   pub bits : usable.number ≡ r.number → let vector = r.decisions.vector r.version r.subject usable.t Port in
       usable.bits ≡ (if bit_and usable.mode vector == usable.mode then usable.mode else 0)

@@ -28,11 +28,11 @@ pub struct PortCore<F: Callback> {
 }
 
 impl<F: Callback> Model for PortCore<F> {
-    ghost use Rattle.port_store.specs.Stores.{Shown, shown_code};
+    ghost use Rattle.port_store.specs.Stores.{StoreView, view_code};
 
-    ghost Value = { Shown };
+    ghost Value = { StoreView };
 
-    ghost coded = { shown_code };
+    ghost coded = { view_code };
 
     ghost view = { λ core. core.ports };
 }
@@ -56,8 +56,8 @@ pub fn new<F: Callback>(alloc: Global, opening: PortOpening, callback: F) -> Por
 impl<F: Callback> Core for PortCore<F> {
     ghost use Rattle.access_vectors.specs.declared.class.Class.TheVariants as class_names;
     ghost use Rattle.port_calls.specs.Honest.{honest_answer, formed_stays};
-    ghost use Rattle.port_calls.specs.Plain as plainly;
-    ghost use Rattle.port_calls.specs.Plain.{IsFormed};
+    ghost use Rattle.port_calls.specs.PlainManager as plainly;
+    ghost use Rattle.port_calls.specs.PlainManager.{IsFormed};
     ghost use Rattle.port_calls.specs.States.{PortState, opened_with};
     ghost use Rattle.port_store.specs.Stores as stores;
     ghost use Rattle.port_store.specs.Stores.{Safe, state_of};

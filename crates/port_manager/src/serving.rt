@@ -1,7 +1,7 @@
 //! Serving a call by the row of its kind.
 
 ghost use Rattle.mode_questions.specs.Operations.{request};
-ghost use Rattle.port_calls.specs.Plain.{IsFormed};
+ghost use Rattle.port_calls.specs.PlainManager.{IsFormed};
 ghost use Rattle.port_store.specs.Stores.{state_of};
 ghost use Rattle.port_manager.specs.Serving.{MayServe, ServesCall};
 

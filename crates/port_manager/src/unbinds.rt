@@ -3,7 +3,7 @@
 ghost use Rattle.std.specs.FinMap as maps;
 ghost use Rattle.access_vectors.specs.Stale.{slot_place};
 ghost use Rattle.mode_questions.specs.Operations.{request};
-ghost use Rattle.port_calls.specs.Plain.{follows_unbound};
+ghost use Rattle.port_calls.specs.PlainManager.{follows_unbound};
 ghost use Rattle.port_calls.specs.Rows.{unbind_row};
 ghost use Rattle.port_store.specs.Stores.{state_of, follows};
 ghost use Rattle.port_manager.specs.Serving.{MayServe, ServesSlots};

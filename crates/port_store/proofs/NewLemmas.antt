@@ -10,12 +10,12 @@ use Rattle.slot_tables.specs.Slots.{map_of}
 use Rattle.slot_tables.proofs.SlotLemmas.{map_of-none}
 use Rattle.port_calls.specs.States.{Bound, IsOpening, opened_with}
 use Rattle.port_calls.specs.declared.opening.PortOpening.{PortOpening}
-use Rattle.port_store.specs.Stores.{BoundPorts, Shown, IsInStep, IsLinked, Safe, state_of, slots_of, follows}
+use Rattle.port_store.specs.Stores.{BoundPorts, StoreView, IsInStep, IsLinked, Safe, state_of, slots_of, follows}
 use Rattle.retained_rights.proofs.MapLemmas.{mapped-empty}
 use Rattle.retained_rights.proofs.Opening.{fit_none}
 use Rattle.retained_rights.proofs.StepLemmas.{step_new}
 
-abbrev pub opened : PortOpening → BoundPorts → Rights → Shown
+abbrev pub opened : PortOpening → BoundPorts → Rights → StoreView
 opened opening ports rights = record { opening = opening; ports = ports; rights = rights }
 
 module _ (opening : PortOpening) (table : List (Option Bound)) (empty : table ≡ []) (rights : Rights) (none : rights ≡ no_rights rules.All Port) where

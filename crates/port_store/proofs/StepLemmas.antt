@@ -11,24 +11,24 @@ use Rattle.retained_rights.specs.Rights.{Rights, Fit}
 use Rattle.retained_rights.proofs.Following.{client_of_place}
 use Rattle.retained_rights.proofs.StepLemmas as steps
 use Rattle.port_calls.specs.States.{Bound, label_of}
-use Rattle.port_store.specs.Stores.{BoundPorts, Shown, IsMode, IsLinked, IsInStep, Safe}
+use Rattle.port_store.specs.Stores.{BoundPorts, StoreView, IsMode, IsLinked, IsInStep, Safe}
 use Rattle.port_store.specs.Laws.{safe_is}
 use Rattle.port_store.specs.Queues.{ports_with, changed}
 
 -- other ports or rights
-abbrev pub with_rights : Shown → Rights → Shown
+abbrev pub with_rights : StoreView → Rights → StoreView
 with_rights shown now = record { opening = shown.opening; ports = shown.ports; rights = now }
 
-abbrev pub with_both : Shown → BoundPorts → Rights → Shown
+abbrev pub with_both : StoreView → BoundPorts → Rights → StoreView
 with_both shown ports rights = record { opening = shown.opening; ports = ports; rights = rights }
 
 -- the promise under a decider with other ports and rights
-pub safe_moved : (d : Decisions) (shown : Shown) (ports : BoundPorts) (now : Rights) → Safe d shown → IsInStep (with_both shown ports now) → Fit d now → Safe d (with_both shown ports now)
+pub safe_moved : (d : Decisions) (shown : StoreView) (ports : BoundPorts) (now : Rights) → Safe d shown → IsInStep (with_both shown ports now) → Fit d now → Safe d (with_both shown ports now)
 unfolding Safe
 safe_moved d shown ports now safe step fit = record { step = step; known = safe.known; rights = fit }
 
 -- where a change of policy leaves what the slots are for
-pub safe_kept : (d : Decisions) (shown : Shown) (now : Rights) → Safe d shown → now.rule ≡ shown.rights.rule → now.class ≡ shown.rights.class
+pub safe_kept : (d : Decisions) (shown : StoreView) (now : Rights) → Safe d shown → now.rule ≡ shown.rights.rule → now.class ≡ shown.rights.class
     → claims_of now ≡ claims_of shown.rights → Fit d now → Safe d (with_rights shown now)
 safe_kept d shown now safe rule class claims fit = safe_moved d shown shown.ports now safe (steps.step_kept (safe_is d shown safe).step now rule class claims) fit
 
@@ -53,11 +53,11 @@ bound_changed ports at change port there = by_bound (maps.get ports at)
     by_bound (Some bound) = bound_beside ports at (change bound) port there
 
 -- where each bound port is still bound
-still_linked : (shown : Shown) (ports : BoundPorts) → ((port : ℕ) → is_some (maps.get shown.ports port) ≡ true → is_some (maps.get ports port) ≡ true)
+still_linked : (shown : StoreView) (ports : BoundPorts) → ((port : ℕ) → is_some (maps.get shown.ports port) ≡ true → is_some (maps.get ports port) ≡ true)
     → (place : ℕ) (claim : Claim) → IsLinked shown.opening shown.ports place claim → IsLinked shown.opening ports place claim
 still_linked shown ports stays place claim link = record { bound = stays claim.object link.bound; target = link.target; source = link.source; mode = link.mode }
 
-module _ (shown : Shown) (step : IsInStep shown) (now : Rights) (rule : now.rule ≡ shown.rights.rule) (class : now.class ≡ shown.rights.class) where
+module _ (shown : StoreView) (step : IsInStep shown) (now : Rights) (rule : now.rule ≡ shown.rights.rule) (class : now.class ≡ shown.rights.class) where
   -- a slot is filled with a port that is bound
   pub step_filled : (ports : BoundPorts) (client slot : ℕ) (filling : Claim) → ((port : ℕ) → is_some (maps.get shown.ports port) ≡ true → is_some (maps.get ports port) ≡ true)
       → slot < 256 → is_some (maps.get ports filling.object) ≡ true → label_of shown.opening filling.object ≡ filling.t
@@ -78,7 +78,7 @@ module _ (shown : Shown) (step : IsInStep shown) (now : Rights) (rule : now.rule
   })
 
 -- what is bound at a port changes
-pub step_changed : (shown : Shown) → IsInStep shown → (at : ℕ) (change : Bound → Bound) (ports : BoundPorts) → ports ≡ changed shown.ports at change → IsInStep (with_both shown ports shown.rights)
+pub step_changed : (shown : StoreView) → IsInStep shown → (at : ℕ) (change : Bound → Bound) (ports : BoundPorts) → ports ≡ changed shown.ports at change → IsInStep (with_both shown ports shown.rights)
 step_changed shown step at change ports is =
     steps.step_as step (IsLinked shown.opening ports)
     (still_linked shown ports (λ port there. ap (λ p. is_some (maps.get p port)) is ∙ bound_changed shown.ports at change port there))

@@ -20,7 +20,7 @@ abbrev pub BoundPorts : Type 0
 BoundPorts = FinMap nat_cmp Bound
 
 -- what contracts see of ports and rights: what they were opened with, the bound ports by their numbers, and the rights
-pub record Shown : Type 0 where
+pub record StoreView : Type 0 where
   pub opening : PortOpening
   pub ports : BoundPorts
   pub rights : Rights
@@ -31,8 +31,8 @@ bound_code =
     code_by (ℕ × List (List ℕ)) (coded× coded_ℕ (coded_list (coded_list coded_ℕ))) (λ bound. (bound.owner, bound.messages))
     (λ pair. record { owner = pair.0; messages = pair.1 }) (λ _. refl)
 
-abbrev pub shown_code : Coded Shown
-shown_code =
+abbrev pub view_code : Coded StoreView
+view_code =
     code_by (PortOpening × (BoundPorts × Rights)) (coded× opening_type.the_row.coded (coded× (maps.code coded_ℕ bound_code) rights_code))
     (λ v. (v.opening, (v.ports, v.rights))) (λ p. record { opening = p.0; ports = p.1.0; rights = p.1.1 }) (λ _. refl)
 
@@ -45,11 +45,11 @@ abbrev pub slots_of : Claims → FinMap nat_cmp Held
 slots_of claims = mapped (λ place claim. held_by claim) claims
 
 -- the state that the plain manager sees
-abbrev pub state_of : Shown → PortState
+abbrev pub state_of : StoreView → PortState
 state_of shown = record { opening = shown.opening; ports = shown.ports; slots = slots_of (claims_of shown.rights) }
 
 -- the policy number that each used slot follows
-abbrev pub follows : Shown → Follows
+abbrev pub follows : StoreView → Follows
 follows shown = follows_of shown.rights
 
 -- a mode is of permissions of binding, receiving, sending and connecting, one of them at least
@@ -65,16 +65,16 @@ pub record IsLinked (opening : PortOpening) (ports : BoundPorts) (place : ℕ) (
   pub mode : IsMode claim.mode
 
 -- ports and rights are in step
-abbrev pub IsInStep : Shown → Type 0
+abbrev pub IsInStep : StoreView → Type 0
 IsInStep shown = AreInStep rules.All Port (IsLinked shown.opening shown.ports) shown.rights
 
 -- the promise of ports and rights under a decider: they are in step, their identifiers are the decider's, and the rights
 -- are those that the decider gives
-pub record IsSafe (d : Decisions) (shown : Shown) : Type 0 where
+pub record IsSafe (d : Decisions) (shown : StoreView) : Type 0 where
   pub step : IsInStep shown
   pub known : IsOpening d shown.opening
   pub rights : Fit d shown.rights
 
 -- that promise, as a word that rows pass on unread
-unfoldable pub Safe : Decisions → Shown → Type 0
+unfoldable pub Safe : Decisions → StoreView → Type 0
 Safe d shown = IsSafe d shown

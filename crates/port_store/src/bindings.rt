@@ -5,7 +5,7 @@ ghost use Rattle.std.specs.FinMap as maps;
 ghost use Rattle.access_vectors.specs.Decisions.{Decisions};
 ghost use Rattle.access_vectors.specs.Phases.{version_at, MayName};
 ghost use Rattle.access_vectors.specs.Stale.{slot_place};
-ghost use Rattle.port_calls.specs.Plain.{follows_without};
+ghost use Rattle.port_calls.specs.PlainManager.{follows_without};
 ghost use Rattle.port_calls.specs.Rows.{bound_by, unbound};
 ghost use Rattle.port_calls.specs.States.{label_of, sid_of};
 ghost use Rattle.port_store.specs.Stores.{IsMode, Safe, state_of, follows};

@@ -20,7 +20,7 @@ use retained_rights::{Callback, Grants, Rule};
 use std::alloc::Global;
 use std::marker::Model;
 
-/// The bound ports, and a grant for each used slot. Contracts see a value `Shown`. A change of policy is made on the grants
+/// The bound ports, and a grant for each used slot. Contracts see a value `StoreView`. A change of policy is made on the grants
 /// themselves, and leaves what each is for.
 #[derive(Drop)]
 pub struct Ports<F: Callback> {
@@ -31,11 +31,11 @@ pub struct Ports<F: Callback> {
 
 impl<F: Callback> Model for Ports<F> {
     ghost use Rattle.slot_tables.specs.Slots.{map_of};
-    ghost use Rattle.port_store.specs.Stores.{Shown, IsInStep, shown_code};
+    ghost use Rattle.port_store.specs.Stores.{StoreView, IsInStep, view_code};
 
-    ghost Value = { Shown };
+    ghost Value = { StoreView };
 
-    ghost coded = { shown_code };
+    ghost coded = { view_code };
 
     ghost view = { λ ports. record { opening = ports.opening; ports = map_of ports.table.items; rights = ports.grants } };
 

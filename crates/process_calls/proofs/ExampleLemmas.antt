@@ -13,7 +13,7 @@ use Rattle.process_calls.specs.declared.call.ProcessReply.{ProcessReply}
 use Rattle.process_calls.specs.declared.call.ProcessReply.TheVariants.{Done, Num, Denied, TooMany}
 use Rattle.process_calls.specs.States.{ProcessState, ProcessAnswer, opened_with, with_process, with_slots, process_limit, asking_attach, saying, asking, after_asking, with_found, while_running}
 use Rattle.process_calls.specs.Rows.{started, becoming, started_at, attached_at, with_attached, used}
-use Rattle.process_calls.specs.Plain.{answer, request_of}
+use Rattle.process_calls.specs.PlainManager.{answer, request_of}
 use Rattle.process_calls.specs.Example.{AnswersOfDay, one_client_opening, day_decisions, day_fork, day_attach, day_peek, forked_state, attached_state}
 
 -- the process, and the states that the fork and the attach leave

@@ -8,7 +8,7 @@ use Rattle.process_calls.specs.declared.opening.ProcessOpening.{ProcessOpening}
 use Rattle.process_calls.specs.declared.call.ProcessCall.{ProcessCall}
 use Rattle.process_calls.specs.declared.call.ProcessCall.TheVariants.{Fork, Attach, Peek}
 use Rattle.process_calls.specs.declared.call.ProcessReply.TheVariants.{Done, Num, Denied}
-use Rattle.process_calls.specs.Plain.{answer}
+use Rattle.process_calls.specs.PlainManager.{answer}
 use Rattle.process_calls.specs.States.{ProcessState, opened_with}
 
 -- one client

@@ -13,7 +13,7 @@ use Rattle.mode_questions.specs.Honesty as honest
 use Rattle.mode_questions.specs.Requests.{Request}
 use Rattle.process_calls.specs.States.{ProcessState, ProcessAnswer, sid_of, with_process, process_limit, attach_mode, attach_perms, asking_attach, saying, asking, after_asking, with_found, for_child, while_running}
 use Rattle.process_calls.specs.Rows.{started, becoming, started_at, fork_row, exec_row, signal_row, exit_row, waited, wait_row, attached_at, with_attached, used, detached, stat_row}
-use Rattle.process_calls.specs.Plain.{answered, answer, request_of, denial_of, IsFormed}
+use Rattle.process_calls.specs.PlainManager.{answered, answer, request_of, denial_of, IsFormed}
 use Rattle.process_calls.specs.declared.opening.ProcessOpening.{ProcessOpening}
 use Rattle.process_calls.specs.declared.process.Process.{Process}
 use Rattle.process_calls.specs.declared.call.ProcessCall.{ProcessCall}

@@ -1,6 +1,6 @@
 pub mod Formed
 pub mod States
 pub mod Rows
-pub mod Plain
+pub mod PlainManager
 pub mod Honest
 pub mod Example

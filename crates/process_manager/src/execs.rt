@@ -2,7 +2,7 @@
 
 ghost use Rattle.std.specs.Prelude.{◌≡◌, IsTrue};
 ghost use Rattle.mode_questions.specs.Operations.{request};
-ghost use Rattle.process_calls.specs.Plain.{follows_moved};
+ghost use Rattle.process_calls.specs.PlainManager.{follows_moved};
 ghost use Rattle.process_calls.specs.Rows;
 ghost use Rattle.process_store.specs.Stores.{state_of, follows};
 ghost use Rattle.process_manager.specs.Serving.{MayServe, ServesSlots};

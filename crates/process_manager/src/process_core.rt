@@ -28,11 +28,11 @@ pub struct ProcessCore<F: Callback> {
 }
 
 impl<F: Callback> Model for ProcessCore<F> {
-    ghost use Rattle.process_store.specs.Stores.{Shown, shown_code};
+    ghost use Rattle.process_store.specs.Stores.{StoreView, view_code};
 
-    ghost Value = { Shown };
+    ghost Value = { StoreView };
 
-    ghost coded = { shown_code };
+    ghost coded = { view_code };
 
     ghost view = { λ core. core.processes };
 }
@@ -59,8 +59,8 @@ pub fn new<F: Callback + Drop>(
 impl<F: Callback> Core for ProcessCore<F> {
     ghost use Rattle.access_vectors.specs.declared.class.Class.TheVariants as class_of;
     ghost use Rattle.process_calls.specs.Honest.{honest_answer, formed_stays};
-    ghost use Rattle.process_calls.specs.Plain as plainly;
-    ghost use Rattle.process_calls.specs.Plain.{IsFormed};
+    ghost use Rattle.process_calls.specs.PlainManager as plainly;
+    ghost use Rattle.process_calls.specs.PlainManager.{IsFormed};
     ghost use Rattle.process_calls.specs.States.{ProcessState, opened_with};
     ghost use Rattle.process_store.specs.Stores as stores;
     ghost use Rattle.process_store.specs.Stores.{Safe, state_of};

@@ -1,7 +1,7 @@
 //! Waiting for a child.
 
 ghost use Rattle.mode_questions.specs.Operations.{request};
-ghost use Rattle.process_calls.specs.Plain.{follows_without};
+ghost use Rattle.process_calls.specs.PlainManager.{follows_without};
 ghost use Rattle.process_calls.specs.Rows;
 ghost use Rattle.process_store.specs.Stores.{state_of, follows};
 ghost use Rattle.process_manager.specs.Serving.{MayServe, ServesTold};

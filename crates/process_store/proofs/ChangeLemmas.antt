@@ -13,11 +13,11 @@ use Rattle.retained_rights.specs.Claims.{Claim, Claims, claims_of, is_for, not_f
 use Rattle.retained_rights.specs.Rights.{Rights, Fit, follows_of}
 use Rattle.retained_rights.proofs.MapLemmas.{some_same, none_some, mapped-mapped, mapped-retain_keys}
 use Rattle.retained_rights.proofs.StepLemmas.{step_as, step_without, step_relabelled}
-use Rattle.process_calls.specs.Plain.{follows_moved, follows_without}
+use Rattle.process_calls.specs.PlainManager.{follows_moved, follows_without}
 use Rattle.process_calls.specs.Rows.{is_attached_to, slots_without, gone}
 use Rattle.process_calls.specs.States.{with_process}
 use Rattle.process_calls.specs.declared.process.Process.{Process}
-use Rattle.process_store.specs.Stores.{Numbered, Shown, IsProcessOf, IsLinked, IsInStep, IsCounted, Safe, state_of, slots_of, follows}
+use Rattle.process_store.specs.Stores.{Numbered, StoreView, IsProcessOf, IsLinked, IsInStep, IsCounted, Safe, state_of, slots_of, follows}
 use Rattle.process_store.specs.Laws.{safe_is}
 use Rattle.process_store.proofs.Linking.{AreKnown, with_both, safe_moved}
 
@@ -55,7 +55,7 @@ module _ (processes : Numbered) (pid : ℕ) (process : Process) where
   ]
 
 -- a process more
-module _ (shown : Shown) (pid : ℕ) (process : Process) (processes : Numbered) (is : processes ≡ maps.insert shown.processes pid process) (unused : maps.get shown.processes pid ≡ None) (step : IsInStep shown) where
+module _ (shown : StoreView) (pid : ℕ) (process : Process) (processes : Numbered) (is : processes ≡ maps.insert shown.processes pid process) (unused : maps.get shown.processes pid ≡ None) (step : IsInStep shown) where
   step_added : IsInStep (with_both shown processes shown.rights)
   step_added = step_as step (IsLinked shown.opening.clients processes) (λ place claim link. record {
     target = subst (λ n. IsProcessOf n claim.object claim.t) (sym is) (process_beside shown.processes pid process unused claim.object claim.t link.target);
@@ -77,7 +77,7 @@ module _ (shown : Shown) (pid : ℕ) (process : Process) (processes : Numbered) 
       safe_moved d shown processes shown.rights safe step_added (subst (AreKnown d) (sym is) (labels_put shown.processes pid process d known was.labels)) was.rights
 
 -- a process in the place of one with the same label
-module _ (shown : Shown) (pid : ℕ) (process : Process) (processes : Numbered) (is : processes ≡ maps.insert shown.processes pid process) (there : IsProcessOf shown.processes pid process.label) (step : IsInStep shown) where
+module _ (shown : StoreView) (pid : ℕ) (process : Process) (processes : Numbered) (is : processes ≡ maps.insert shown.processes pid process) (there : IsProcessOf shown.processes pid process.label) (step : IsInStep shown) where
   step_replaced : IsInStep (with_both shown processes shown.rights)
   step_replaced = step_as step (IsLinked shown.opening.clients processes) (λ place claim link. record {
     target = subst (λ n. IsProcessOf n claim.object claim.t) (sym is) (process_alike shown.processes pid process there claim.object claim.t link.target);
@@ -114,7 +114,7 @@ attached_as claims pid place = at (maps.get claims place) ∙ ap (is_attached_to
     at (Some claim) = refl
 
 -- a process less, and the grants on it
-module _ (shown : Shown) (pid : ℕ) (there : is_some (maps.get shown.processes pid) ≡ true) (processes : Numbered) (now : Rights) (is : processes ≡ maps.remove shown.processes pid)
+module _ (shown : StoreView) (pid : ℕ) (there : is_some (maps.get shown.processes pid) ≡ true) (processes : Numbered) (now : Rights) (is : processes ≡ maps.remove shown.processes pid)
     (rule : now.rule ≡ shown.rights.rule) (class : now.class ≡ shown.rights.class) (claims : claims_of now ≡ not_for pid (claims_of shown.rights) (claims_of shown.rights)) (step : IsInStep shown) where
   still : (q : ℕ) → (q ≡ pid → ⊥) → maps.get processes q ≡ maps.get shown.processes q
   still q apart = ap (λ m. maps.get m q) is ∙ get-taken shown.processes pid q ∙ ap (λ t. cond t None (maps.get shown.processes q)) (ne_eqb q pid apart)
@@ -155,7 +155,7 @@ module _ (shown : Shown) (pid : ℕ) (there : is_some (maps.get shown.processes 
   follows_left following = following ∙ (λ i. maps.retain_keys (follows shown) (λ place. not (attached_as (claims_of shown.rights) pid place i)))
 
 -- a process with another label, and the grants on it moved
-module _ (shown : Shown) (pid : ℕ) (process : Process) (there : is_some (maps.get shown.processes pid) ≡ true) (processes : Numbered) (now : Rights) (is : processes ≡ maps.insert shown.processes pid process)
+module _ (shown : StoreView) (pid : ℕ) (process : Process) (there : is_some (maps.get shown.processes pid) ≡ true) (processes : Numbered) (now : Rights) (is : processes ≡ maps.insert shown.processes pid process)
     (rule : now.rule ≡ shown.rights.rule) (class : now.class ≡ shown.rights.class) (claims : claims_of now ≡ all_relabelled pid process.label (claims_of shown.rights)) (step : IsInStep shown) where
   process_now : (object was label : ℕ) → (object ≡ pid → process.label ≡ label) → ((object ≡ pid → ⊥) → was ≡ label) → IsProcessOf shown.processes object was → IsProcessOf processes object label
   process_now object was label here away target = subst (λ n. IsProcessOf n object label) (sym is) (process_put shown.processes pid process object was label here away target)

@@ -11,12 +11,12 @@ use Rattle.retained_rights.specs.Rights.{Fit, bits_under}
 use Rattle.retained_rights.specs.declared.grant.Usable.{Usable}
 use Rattle.retained_rights.specs.declared.rule.Rule.TheVariants.{All}
 use Rattle.retained_rights.proofs.Following.{client_of_place}
-use Rattle.process_store.specs.Stores.{Shown, Safe}
+use Rattle.process_store.specs.Stores.{StoreView, Safe}
 use Rattle.process_store.specs.Uses.{IsUse, IsFree}
 use Rattle.process_store.specs.Laws.{safe_is}
 
 -- what a use of rights says of their process
-use_is : (d : Decisions) (shown : Shown) (client slot : ℕ) (usable : Usable) → slot < 256 → IsUseOf d shown.rights (slot_place client slot) usable → Safe d shown → IsUse d shown client slot usable
+use_is : (d : Decisions) (shown : StoreView) (client slot : ℕ) (usable : Usable) → slot < 256 → IsUseOf d shown.rights (slot_place client slot) usable → Safe d shown → IsUse d shown client slot usable
 use_is d shown client slot usable small used safe =
     let step = (safe_is d shown safe).step in
     let link = step.claims (slot_place client slot) (record { object = usable.object; mode = usable.mode; s = usable.s; t = usable.t }) used.claim in
@@ -34,7 +34,7 @@ use_is d shown client slot usable small used safe =
     }
 
 -- what a slot's look-up in the grants tells
-pub use_of_slot : (shown : Shown) (client slot : ℕ) (found : Option Usable) → slot < 256
+pub use_of_slot : (shown : StoreView) (client slot : ℕ) (found : Option Usable) → slot < 256
     → MatchOption found (IsUnused shown.rights (slot_place client slot)) (λ (usable : Usable). (d : Decisions) → Fit d shown.rights → IsUseOf d shown.rights (slot_place client slot) usable)
     → MatchOption found (IsFree shown client slot) (λ (usable : Usable). (d : Decisions) → Safe d shown → IsUse d shown client slot usable)
 use_of_slot shown client slot None small free = record {

@@ -22,14 +22,14 @@ abbrev pub Numbered : Type 0
 Numbered = FinMap nat_cmp Process
 
 -- what contracts see of processes and rights: what they were opened with, the processes by their numbers, and the rights
-pub record Shown : Type 0 where
+pub record StoreView : Type 0 where
   pub opening : ProcessOpening
   pub processes : Numbered
   pub rights : Rights
 
 -- how contracts tell such values apart
-abbrev pub shown_code : Coded Shown
-shown_code =
+abbrev pub view_code : Coded StoreView
+view_code =
     code_by (ProcessOpening × (Numbered × Rights)) (coded× opening_type.the_row.coded (coded× (maps.code coded_ℕ process_type.the_row.coded) rights_code))
     (λ v. (v.opening, (v.processes, v.rights))) (λ p. record { opening = p.0; processes = p.1.0; rights = p.1.1 }) (λ _. refl)
 
@@ -38,11 +38,11 @@ abbrev pub slots_of : Claims → FinMap nat_cmp ℕ
 slots_of claims = mapped (λ place claim. claim.object) claims
 
 -- the state that the plain manager sees
-abbrev pub state_of : Shown → ProcessState
+abbrev pub state_of : StoreView → ProcessState
 state_of shown = record { opening = shown.opening; processes = shown.processes; slots = slots_of (claims_of shown.rights) }
 
 -- the policy number that each used slot follows
-abbrev pub follows : Shown → Follows
+abbrev pub follows : StoreView → Follows
 follows shown = follows_of shown.rights
 
 -- there is a process of that number, and it has this label
@@ -59,22 +59,22 @@ pub record IsLinked (clients : List ℕ) (processes : Numbered) (place : ℕ) (c
   pub mode : claim.mode ≡ attach_mode
 
 -- processes and rights are in step
-abbrev pub IsInStep : Shown → Type 0
+abbrev pub IsInStep : StoreView → Type 0
 IsInStep shown = AreInStep All class.Process (IsLinked shown.opening.clients shown.processes) shown.rights
 
 -- they are in step, and the processes are as many as are counted
-pub record IsCounted (count : ℕ) (shown : Shown) : Type 0 where
+pub record IsCounted (count : ℕ) (shown : StoreView) : Type 0 where
   pub step : IsInStep shown
   pub count_is : count ≡ maps.len shown.processes
 
 -- the promise of processes and rights under a decider: they are in step, their identifiers are the decider's, and the rights
 -- are those that the decider gives
-pub record IsSafe (d : Decisions) (shown : Shown) : Type 0 where
+pub record IsSafe (d : Decisions) (shown : StoreView) : Type 0 where
   pub step : IsInStep shown
   pub clients : IsOpening d shown.opening
   pub labels : (pid : ℕ) (process : Process) → maps.get shown.processes pid ≡ Some process → IsTrue (d.known process.label)
   pub rights : Fit d shown.rights
 
 -- that promise, as a word that rows pass on unread
-unfoldable pub Safe : Decisions → Shown → Type 0
+unfoldable pub Safe : Decisions → StoreView → Type 0
 Safe d shown = IsSafe d shown

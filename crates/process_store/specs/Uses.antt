@@ -7,11 +7,11 @@ use Rattle.access_vectors.specs.Stale.{slot_place}
 use Rattle.access_vectors.specs.declared.class.Class.TheVariants as class
 use Rattle.retained_rights.specs.declared.grant.Usable.{Usable}
 use Rattle.process_calls.specs.States.{sid_of, attach_mode}
-use Rattle.process_store.specs.Stores.{Shown, IsProcessOf, state_of, follows}
+use Rattle.process_store.specs.Stores.{StoreView, IsProcessOf, state_of, follows}
 
 -- under a decider, a use of a client's slot is of the process that it is attached to, for the pair of the client and of the
 -- process's present label, and its bits are the whole mode or none, as the policy number that it follows allows
-pub record IsUse (d : Decisions) (shown : Shown) (client slot : ℕ) (usable : Usable) : Type 0 where
+pub record IsUse (d : Decisions) (shown : StoreView) (client slot : ℕ) (usable : Usable) : Type 0 where
   pub held : maps.get (state_of shown).slots (slot_place client slot) ≡ Some usable.object
   pub following : maps.get (follows shown) (slot_place client slot) ≡ Some usable.number
   pub target : IsProcessOf shown.processes usable.object usable.t
@@ -24,6 +24,6 @@ pub record IsUse (d : Decisions) (shown : Shown) (client slot : ℕ) (usable : U
       usable.bits ≡ (if bit_and usable.mode vector == usable.mode then usable.mode else 0)
 
 -- a client's slot is free
-pub record IsFree (shown : Shown) (client slot : ℕ) : Type 0 where
+pub record IsFree (shown : StoreView) (client slot : ℕ) : Type 0 where
   pub held : maps.get (state_of shown).slots (slot_place client slot) ≡ None
   pub following : maps.get (follows shown) (slot_place client slot) ≡ None

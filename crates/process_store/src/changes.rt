@@ -4,7 +4,7 @@ ghost use Rattle.std.specs.Prelude.{◌≡◌, ◌<◌, true, None, is_some, IsT
 ghost use Rattle.std.specs.FinMap as maps;
 ghost use Rattle.access_vectors.specs.Decisions.{Decisions};
 ghost use Rattle.access_vectors.specs.Phases.{version_at, MayName};
-ghost use Rattle.process_calls.specs.Plain.{follows_moved, follows_without};
+ghost use Rattle.process_calls.specs.PlainManager.{follows_moved, follows_without};
 ghost use Rattle.process_calls.specs.Rows.{gone};
 ghost use Rattle.process_calls.specs.States.{process_limit, with_process};
 ghost use Rattle.process_store.specs.Stores.{IsProcessOf, Safe, state_of, follows};

@@ -20,7 +20,7 @@ use std::marker::Model;
 /// How many processes may be kept.
 const PROCESS_LIMIT: u32 = 4096;
 
-/// The processes by their numbers, how many they are, and a grant for each used slot. Contracts see a value `Shown`. A change
+/// The processes by their numbers, how many they are, and a grant for each used slot. Contracts see a value `StoreView`. A change
 /// of policy is made on the grants themselves, and leaves what each is for.
 #[derive(Drop)]
 pub struct Processes<F: Callback> {
@@ -32,11 +32,11 @@ pub struct Processes<F: Callback> {
 
 impl<F: Callback> Model for Processes<F> {
     ghost use Rattle.slot_tables.specs.Slots.{map_of};
-    ghost use Rattle.process_store.specs.Stores.{Shown, IsCounted, shown_code};
+    ghost use Rattle.process_store.specs.Stores.{StoreView, IsCounted, view_code};
 
-    ghost Value = { Shown };
+    ghost Value = { StoreView };
 
-    ghost coded = { shown_code };
+    ghost coded = { view_code };
 
     ghost view = { λ store. record { opening = store.opening; processes = map_of store.table; rights = store.grants } };
 

@@ -1,7 +1,7 @@
 //! A day of the example board, with a change of policy.
 
 ghost use Rattle.std.specs.Prelude.{◌≡◌, ◌<◌, ◌∷◌, [], IfOk};
-ghost use Rattle.example_board.specs.Plain.{IsCall};
+ghost use Rattle.example_board.specs.PlainManager.{IsCall};
 
 use access_vectors::perms::FILE_READ;
 use access_vectors::{Class, Decider, Vector};

@@ -22,17 +22,17 @@ use Rattle.gate_rule.specs.Views.{entries_of}
 use Rattle.managed_run.specs.Kinds.{kind_of, phase_of}
 use Rattle.managed_run.specs.Administering.{turn_of}
 use Rattle.managed_run.specs.Ends.{HasEndedWith}
-use Rattle.epoch_gate.specs.Seats.{Shown}
+use Rattle.epoch_gate.specs.Seats.{SeatView}
 use Rattle.epoch_gate.specs.Known.{turns_had}
-use Rattle.file_calls.specs.Plain as file_plain
+use Rattle.file_calls.specs.PlainManager as file_plain
 use Rattle.file_calls.specs.States as file_states
 use Rattle.file_calls.specs.declared.call.FileCall.{FileCall}
 use Rattle.file_calls.specs.declared.call.FileReply.{FileReply}
-use Rattle.process_calls.specs.Plain as process_plain
+use Rattle.process_calls.specs.PlainManager as process_plain
 use Rattle.process_calls.specs.States as process_states
 use Rattle.process_calls.specs.declared.call.ProcessCall.{ProcessCall}
 use Rattle.process_calls.specs.declared.call.ProcessReply.{ProcessReply}
-use Rattle.port_calls.specs.Plain as port_plain
+use Rattle.port_calls.specs.PlainManager as port_plain
 use Rattle.port_calls.specs.States as port_states
 use Rattle.port_calls.specs.declared.call.PortCall.{PortCall}
 use Rattle.port_calls.specs.declared.call.PortReply.{PortReply}
@@ -318,7 +318,7 @@ changes_of_run d session files processes ports of =
     changes_are files processes ports (sym in_processes ∙ (ap numbers_of of.same_processes ∙ in_files)) (sym in_ports ∙ (ap numbers_of of.same_ports ∙ in_files))
 
 -- what is known of a station at the end gives what is known of its closed history
-pub closed_of : {Call Reply D O : Type 0} (act : ℕ → Run → List (Act Call)) (session : SessionParts) (chosen : List (ℕ × ℕ)) (admin : Shown (Entry Call Reply) D O) (log : List (Entry Call Reply))
+pub closed_of : {Call Reply D O : Type 0} (act : ℕ → Run → List (Act Call)) (session : SessionParts) (chosen : List (ℕ × ℕ)) (admin : SeatView (Entry Call Reply) D O) (log : List (Entry Call Reply))
     → HasRunAt act session chosen admin → HasEndedWith admin log → IsClosed act (length session.clients) session.lines (turns_had admin) log
 closed_of act session chosen admin log ran ended = record {
   scripts = record {
@@ -332,7 +332,7 @@ closed_of act session chosen admin log ran ended = record {
 
 -- a station that was ended has one of the run's histories, with the notices of the turns
 pub ended_one : {Call Reply State D O : Type 0} (plain : Manager Call Reply State) (formed : Decisions → State → ℕ → Call → Type 0) (d : Decisions) (opening : State)
-    (act : ℕ → Run → List (Act Call)) (session : SessionParts) (chosen : List (ℕ × ℕ)) (admin : Shown (Entry Call Reply) D O) (log : List (Entry Call Reply))
+    (act : ℕ → Run → List (Act Call)) (session : SessionParts) (chosen : List (ℕ × ℕ)) (admin : SeatView (Entry Call Reply) D O) (log : List (Entry Call Reply))
     → HasRunAt act session chosen admin → HasSettled admin log → IsLawful plain formed d (start_of opening) log
     → IsOneOf plain formed d opening act (length session.clients) session.lines log × (noticed_in log ≡ chosen)
 ended_one {Call = Call} {Reply = Reply} plain formed d opening act session chosen admin log ran ended lawful =

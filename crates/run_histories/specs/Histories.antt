@@ -10,7 +10,7 @@ use mathlib.Core.Option.{some}
 use lib.ListN.{get_elem?}
 use Rattle.gate_rule.specs.declared.view.Item.{Item}
 use Rattle.gate_rule.specs.declared.view.Ended.{Ended}
-use Rattle.epoch_gate.specs.Seats.{Shown, Site, IsOfGate}
+use Rattle.epoch_gate.specs.Seats.{SeatView, Site, IsOfGate}
 use Rattle.epoch_gate.specs.Known.{decider_of, seats_made, seats_retired, turns_had, IsIdle}
 use Rattle.managed_run.specs.Administering.{turn_of}
 use Rattle.managed_run.specs.declared.docket.Opened.{Opened}
@@ -21,17 +21,17 @@ use Rattle.client_script.specs.declared.stations.Stations.{Stations}
 use Rattle.gate_rule.specs.History.{of_caller, controls}
 use Rattle.gate_rule.specs.Views.{entries_of}
 use Rattle.managed_run.specs.Kinds.{kind_of, phase_of}
-use Rattle.file_calls.specs.Plain as file_plain
+use Rattle.file_calls.specs.PlainManager as file_plain
 use Rattle.file_calls.specs.States as file_states
 use Rattle.file_calls.specs.declared.call.FileCall.{FileCall}
 use Rattle.file_calls.specs.declared.call.FileReply.{FileReply}
 use Rattle.file_calls.specs.declared.opening.FileOpening.{FileOpening}
-use Rattle.process_calls.specs.Plain as process_plain
+use Rattle.process_calls.specs.PlainManager as process_plain
 use Rattle.process_calls.specs.States as process_states
 use Rattle.process_calls.specs.declared.call.ProcessCall.{ProcessCall}
 use Rattle.process_calls.specs.declared.call.ProcessReply.{ProcessReply}
 use Rattle.process_calls.specs.declared.opening.ProcessOpening.{ProcessOpening}
-use Rattle.port_calls.specs.Plain as port_plain
+use Rattle.port_calls.specs.PlainManager as port_plain
 use Rattle.port_calls.specs.States as port_states
 use Rattle.port_calls.specs.declared.call.PortCall.{PortCall}
 use Rattle.port_calls.specs.declared.call.PortReply.{PortReply}
@@ -84,14 +84,14 @@ pub record IsWalked (lines : List RunLine) (chosen : List (ℕ × ℕ)) (turns :
 
 -- what is known of a station's administrator once a session was run there and all seats are retired: there was a seat for each client,
 -- whose own entries are its whole script, and the turns are those of the administrator's worker
-pub record HasRunAt {Call Reply D O : Type 0} (act : ℕ → Run → List (Act Call)) (session : SessionParts) (chosen : List (ℕ × ℕ)) (admin : Shown (Entry Call Reply) D O) : Type 0 where
+pub record HasRunAt {Call Reply D O : Type 0} (act : ℕ → Run → List (Act Call)) (session : SessionParts) (chosen : List (ℕ × ℕ)) (admin : SeatView (Entry Call Reply) D O) : Type 0 where
   pub made : seats_made admin ≡ length session.clients
   pub whole : (client : ℕ) → client < length session.clients
       → (i : ℕ) × (e : Ended (Entry Call Reply)) × (get_elem? (seats_retired admin) i ≡ some e) × (e.number ≡ client) × IsWhole act client (script_of client session.lines) e.entries
   pub walked : IsWalked session.lines chosen (map turn_of (turns_had admin))
 
 -- a station may be ended: its administrator is its own and has not the turn, and every seat is retired
-pub record MayEnd {Call Reply D O : Type 0} (site : Site D O) (admin : Shown (Entry Call Reply) D O) : Type 0 where
+pub record MayEnd {Call Reply D O : Type 0} (site : Site D O) (admin : SeatView (Entry Call Reply) D O) : Type 0 where
   pub gate : IsOfGate site admin
   pub out : seats_made admin ≡ length (seats_retired admin)
   pub idle : IsIdle admin
@@ -99,8 +99,8 @@ pub record MayEnd {Call Reply D O : Type 0} (site : Site D O) (admin : Shown (En
 -- a session was run at three stations: they were opened from it, with one decider; at each the clients' scripts and the administrator's
 -- turns are those of the session; and the administrator's script explains the versions noticed
 pub record HasRun {D F P Q : Type 0} (decides : D → Decisions) (session : SessionParts) (chosen : List (ℕ × ℕ)) (stations : Stations D F P Q)
-    (files : Shown (Entry FileCall FileReply) D (Opened (FileCore F))) (processes : Shown (Entry ProcessCall ProcessReply) D (Opened (ProcessCore P)))
-    (ports : Shown (Entry PortCall PortReply) D (Opened (PortCore Q))) : Type 0 where
+    (files : SeatView (Entry FileCall FileReply) D (Opened (FileCore F))) (processes : SeatView (Entry ProcessCall ProcessReply) D (Opened (ProcessCore P)))
+    (ports : SeatView (Entry PortCall PortReply) D (Opened (PortCore Q))) : Type 0 where
   pub opened_files : stations.files.fixed.opening.core.opening ≡ file_opening session
   pub opened_processes : stations.processes.fixed.opening.core.opening ≡ process_opening session
   pub opened_ports : stations.ports.fixed.opening.core.opening ≡ port_opening session

@@ -1,11 +1,11 @@
 -- The seats of a client as they are retired.
-use Rattle.epoch_gate.specs.Seats.{Shown, Site, IsOfGate}
+use Rattle.epoch_gate.specs.Seats.{SeatView, Site, IsOfGate}
 use Rattle.epoch_gate.specs.Known.{HasNoPass, IsIdle}
 use Rattle.client_script.specs.declared.stations.Stations.{Stations}
 use Rattle.client_script.specs.declared.stations.Seats.{Seats}
 
 -- a seat may be retired: it is the station's, holds no pass, and has not the turn
-pub record IsLeft {E D O : Type 0} (site : Site D O) (seat : Shown E D O) : Type 0 where
+pub record IsLeft {E D O : Type 0} (site : Site D O) (seat : SeatView E D O) : Type 0 where
   pub gate : IsOfGate site seat
   pub out : HasNoPass seat
   pub idle : IsIdle seat

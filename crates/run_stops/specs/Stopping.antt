@@ -2,11 +2,11 @@
 use Rattle.std.specs.Prelude.{◌≡◌, ℕ, List, [], ◌∷◌, ◌++◌}
 use Rattle.gate_rule.specs.History.{Kind}
 use Rattle.gate_rule.specs.History.Kind.{Call}
-use Rattle.epoch_gate.specs.Seats.{Shown}
+use Rattle.epoch_gate.specs.Seats.{SeatView}
 use Rattle.epoch_gate.specs.Known.{caller_number, own_entries}
 
 -- the seat is the client's, and the last of its own entries is a call with this mark, done or aborted
-pub record HasAnswered {E D O : Type 0} (kind : E → Kind) (client mark : ℕ) (seat : Shown E D O) : Type 0 where
+pub record HasAnswered {E D O : Type 0} (kind : E → Kind) (client mark : ℕ) (seat : SeatView E D O) : Type 0 where
   pub number : caller_number seat ≡ client
   pub before : List E
   pub entry : E

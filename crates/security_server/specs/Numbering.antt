@@ -14,7 +14,7 @@ use Rattle.security_server.specs.declared.answers.ReceiptFault.TheVariants as re
 
 -- what contracts see of a server: the decider, how many managers are registered, the last number that may be made, which
 -- number is settled or pending, and by manager whether its receipt for the pending one is in
-pub record Kept (Decider : Type 0) : Type 0 where
+pub record ServerView (Decider : Type 0) : Type 0 where
   pub decider : Decider
   pub managers : ℕ
   pub most : ℕ
@@ -22,8 +22,8 @@ pub record Kept (Decider : Type 0) : Type 0 where
   pub receipts : List Bool
 
 -- how a proof tells two of them apart: by the fields
-abbrev pub kept_code : {Decider : Type 0} → Coded Decider → Coded (Kept Decider)
-kept_code {Decider = Decider} code =
+abbrev pub server_code : {Decider : Type 0} → Coded Decider → Coded (ServerView Decider)
+server_code {Decider = Decider} code =
     code_by (Decider × (ℕ × (ℕ × (Phase × List Bool)))) (coded× code (coded× coded_ℕ (coded× coded_ℕ (coded× phase_type.the_row.coded (coded_list coded_bool)))))
     (λ kept. (kept.decider, (kept.managers, (kept.most, (kept.phase, kept.receipts)))))
     (λ p. record { decider = p.0; managers = p.1.0; most = p.1.1.0; phase = p.1.1.1.0; receipts = p.1.1.1.1 }) (λ _. refl)
@@ -33,7 +33,7 @@ abbrev pub no_receipts : List Bool
 no_receipts = replicate 16 false
 
 -- a server at its start: number 0 with version 0 is settled
-abbrev pub opened : {Decider : Type 0} → Decider → ℕ → ℕ → Kept Decider
+abbrev pub opened : {Decider : Type 0} → Decider → ℕ → ℕ → ServerView Decider
 opened decider managers most =
     record { decider = decider; managers = managers; most = most; phase = Settled 0 0; receipts = no_receipts }
 
@@ -42,11 +42,11 @@ abbrev pub next_unless : Option NotifyFault → ℕ → Result ℕ NotifyFault
 next_unless None settled = Ok (settled + 1)
 next_unless (Some fault) settled = Err fault
 
-abbrev pub proposal : {Decider : Type 0} → ℕ → Kept Decider → ℕ → Result ℕ NotifyFault
+abbrev pub proposal : {Decider : Type 0} → ℕ → ServerView Decider → ℕ → Result ℕ NotifyFault
 proposal versions kept version = next_unless (notice_fault kept.phase versions version kept.most) (number_of kept.phase)
 
 -- a version is proposed under a number
-abbrev pub proposed : {Decider : Type 0} → Kept Decider → ℕ → ℕ → Kept Decider
+abbrev pub proposed : {Decider : Type 0} → ServerView Decider → ℕ → ℕ → ServerView Decider
 proposed kept number version = record {
   decider = kept.decider;
   managers = kept.managers;
@@ -74,7 +74,7 @@ is_pending_number (Settled settled version) number = false
 is_pending_number (Pending pending old new) number = number == pending
 
 -- why a receipt is refused, if it is, in the order of the tests
-abbrev pub receipt_fault : {Decider : Type 0} → Kept Decider → Receipt → Option ReceiptFault
+abbrev pub receipt_fault : {Decider : Type 0} → ServerView Decider → Receipt → Option ReceiptFault
 receipt_fault kept receipt =
     if nat_lt receipt.manager kept.managers then
     (if is_pending_number kept.phase receipt.number then
@@ -83,7 +83,7 @@ receipt_fault kept receipt =
     else Some (receiving.Foreign receipt.manager kept.managers)
 
 -- the receipt of a manager is put in
-abbrev pub with_receipt : {Decider : Type 0} → Kept Decider → ℕ → Kept Decider
+abbrev pub with_receipt : {Decider : Type 0} → ServerView Decider → ℕ → ServerView Decider
 with_receipt kept manager = record {
   decider = kept.decider;
   managers = kept.managers;
@@ -93,15 +93,15 @@ with_receipt kept manager = record {
 }
 
 -- the receipt of each registered manager is in
-abbrev pub are_all_in : {Decider : Type 0} → Kept Decider → Bool
+abbrev pub are_all_in : {Decider : Type 0} → ServerView Decider → Bool
 are_all_in kept = list_all (λ is_there. is_there) (take kept.managers kept.receipts)
 
 -- a number is pending, and the receipt of each manager for it is in
-abbrev pub is_complete : {Decider : Type 0} → Kept Decider → ℕ → Bool
+abbrev pub is_complete : {Decider : Type 0} → ServerView Decider → ℕ → Bool
 is_complete kept number = is_pending_number kept.phase number && are_all_in kept
 
 -- a server whose pending number is complete, or that stays as it is
-abbrev pub completed : {Decider : Type 0} → Kept Decider → Bool → Kept Decider
+abbrev pub completed : {Decider : Type 0} → ServerView Decider → Bool → ServerView Decider
 completed kept false = kept
 completed kept true = record {
   decider = kept.decider;

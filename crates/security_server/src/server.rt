@@ -13,7 +13,7 @@ use std::marker::Model;
 const MANAGERS: usize = 16;
 
 /// A decider, the policy number that is in force or proposed, and the receipts for the proposed one. Contracts see a
-/// record `Kept`.
+/// record `ServerView`.
 #[derive(Debug, Drop)]
 pub struct Server<'d, D: Decider> {
     decider: &'d D,
@@ -26,11 +26,11 @@ pub struct Server<'d, D: Decider> {
 impl<'d, D: Decider> Model for Server<'d, D> {
     ghost use Rattle.std.specs.Prelude.{◌≡◌, ◌≤◌, ◌<◌, false};
     ghost use Rattle.access_vectors.specs.Phases.{number_of, is_pending, AreVersions};
-    ghost use Rattle.security_server.specs.Numbering.{Kept, kept_code, no_receipts};
+    ghost use Rattle.security_server.specs.Numbering.{ServerView, server_code, no_receipts};
 
-    ghost Value = { Kept D };
+    ghost Value = { ServerView D };
 
-    ghost coded = { kept_code D.code };
+    ghost coded = { server_code D.code };
 
     ghost view = { λ server. record {
       decider = server.decider.now;

@@ -13,7 +13,7 @@ use Rattle.text_print.proofs.LineLaws.{lines_of_text}
 use Rattle.text_print.proofs.LeadLaws.{AllLead, lead_words, lead_lines}
 use Rattle.policy_model.specs.declared.policy.PolicyParts.{PolicyParts}
 use Rattle.policy_text.specs.Grammar.{line_read}
-use Rattle.policy_model.specs.Kept.{Kept}
+use Rattle.policy_model.specs.Kept.{IsWholePolicy}
 use Rattle.policy_text.specs.Reading.{begun as policy_begun}
 use Rattle.policy_print.specs.Printed.{policy_lines}
 use Rattle.policy_print.specs.Same.{IsSamePolicy, IsSameAbove}
@@ -35,14 +35,14 @@ use Rattle.session_print.proofs.SetupLinesLaws.{before_lines, setup_lines_lead}
 use Rattle.session_print.proofs.ReadingLaws.{below_policy, below_setup_lines, below_run_lines}
 
 -- the lines that run lead to all of them
-run_lines_lead : (session : SessionParts) → Kept session.policy → IsSession session → AllLead run_line_read IsSameSession (run_lines session) (before_lines session) session
+run_lines_lead : (session : SessionParts) → IsWholePolicy session.policy → IsSession session → AllLead run_line_read IsSameSession (run_lines session) (before_lines session) session
 unfolding run_lines
 run_lines_lead session kept is =
     grown_lead run_line_read IsSameSession (MayLine session.policy.contexts session.clients) (run_line_words session.policy.contexts session.clients) (λ lines. record session { lines = lines })
     (run_line_leads session kept.grown is.clients) [] session.lines is.lines
 
 -- the line below which the session stands
-session_line_leads : (n : ℕ) (policy next : PolicyParts) → n ≤ line_limit → Kept policy → IsSamePolicy next policy → (rest : List (List ℕ)) → read_lines (reader.Policy (record { number = n; above = Some next })) (spaced (codes "session" ∷ []) ∷ rest) ≡ read_lines (reader.Setup (record { number = n + 1; above = setup_of_policy next })) rest
+session_line_leads : (n : ℕ) (policy next : PolicyParts) → n ≤ line_limit → IsWholePolicy policy → IsSamePolicy next policy → (rest : List (List ℕ)) → read_lines (reader.Policy (record { number = n; above = Some next })) (spaced (codes "session" ∷ []) ∷ rest) ≡ read_lines (reader.Setup (record { number = n + 1; above = setup_of_policy next })) rest
 unfolding read_lines read_line is_session_line words_of session_line_read is_alone
 session_line_leads n policy next counted kept same rest =
     rw (end_same n next policy kept same, line_words_spaced n (codes "session") [] counted refl refl) refl
@@ -72,7 +72,7 @@ lines_front : (front back : List (List (List ℕ))) → list_all (list_all is_wo
 lines_front front back f b = list_all-append (list_all is_word) front back ∙ and_from _ _ f b
 
 -- a printed session has those lines
-lines_printed : (session : SessionParts) → Kept session.policy → IsSession session → lines_of (printed session) ≡ text_lines session
+lines_printed : (session : SessionParts) → IsWholePolicy session.policy → IsSession session → lines_of (printed session) ≡ text_lines session
 unfolding printed session_lines lines_below_policy
 lines_printed session kept is =
     let below : List (List (List ℕ)) = (codes "run" ∷ []) ∷ run_lines session in
@@ -92,7 +92,7 @@ text_length session =
     omega (arith, length-append (map spaced (policy_lines session.policy)) below, length-append (map spaced (setup_lines session)) runs, length-map (policy_lines session.policy) spaced, length-map (setup_lines session) spaced, length-map (run_lines session) spaced)
 
 -- a session that was printed in no more lines than a text may have is read as the same session again
-pub printed_again : (session : SessionParts) → Kept session.policy → IsSession session → length (lines_of (printed session)) ≤ line_limit → IsTextOf session (printed session)
+pub printed_again : (session : SessionParts) → IsWholePolicy session.policy → IsSession session → length (lines_of (printed session)) ≤ line_limit → IsTextOf session (printed session)
 unfolding session_of
 printed_again session kept is short =
     let lines = lines_printed session kept is in

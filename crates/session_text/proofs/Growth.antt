@@ -1,6 +1,6 @@
 -- A session that grows by a line still is one.
 use Rattle.std.proofs.Common.{ℕ, List, [], Option, refl, arith}
-use Rattle.policy_model.specs.Kept.{Kept}
+use Rattle.policy_model.specs.Kept.{IsWholePolicy}
 use Rattle.policy_model.specs.declared.policy.PolicyParts.{PolicyParts}
 use Rattle.policy_model.proofs.GrowsLemmas.{grows_snoc}
 use Rattle.session_text.specs.declared.session.Run.{Run}
@@ -11,7 +11,7 @@ use Rattle.session_text.specs.Progress.{IsSetUp}
 use Rattle.session_text.specs.Reading.{session_of_policy}
 
 -- a session of a policy, which has a context, with nothing there yet
-pub begun : (policy : PolicyParts) → Kept policy → IsSetUp (session_of_policy policy)
+pub begun : (policy : PolicyParts) → IsWholePolicy policy → IsSetUp (session_of_policy policy)
 begun policy kept =
     record { kept = record { root = (omega arith, kept.context); port = (omega arith, kept.context); ports = tt; nodes = tt; clients = tt; lines = tt }; idle = refl }
 

@@ -33,6 +33,12 @@ Changed rows new key word = (q : ℕ) → row_at new q ≡ cond (is_at (nat_cmp 
 pub changed_at : (rows new : List (ℕ × ℕ)) (key other : ℕ) (word : Option ℕ) → key ≡ other → Changed rows new key word → Changed rows new other word
 changed_at rows new key other word same changed = subst (λ k. Changed rows new k word) same changed
 
+-- two changes at one key are the later one
+pub changed_twice : (rows between new : List (ℕ × ℕ)) (key : ℕ) (first word : Option ℕ) → Changed rows between key first → Changed between new key word → Changed rows new key word
+changed_twice rows between new key first word before after q =
+    after q ∙ ap (cond (is_at (nat_cmp key) q) word) (before q)
+    ∙ elim (is_at (nat_cmp key) q) as (λ t. cond t word (cond t first (row_at rows q)) ≡ cond t word (row_at rows q)) [ true ↦ refl | false ↦ refl ]
+
 -- the rows are as before but for one key, which has another word
 abbrev pub Written : List (ℕ × ℕ) → List (ℕ × ℕ) → ℕ → ℕ → Type 0
 Written rows new key word = (other : ℕ) → word_of new other ≡ cond (eqb key other) word (word_of rows other)
@@ -182,6 +188,20 @@ and_zero mask = and_zero_l mask
 -- a word of which some bit is left stands in a row
 pub row_of_word : (rows : List (ℕ × ℕ)) (key word mask : ℕ) → word ≡ word_of rows key → (bit_and word mask ≡ 0 → ⊥) → row_at rows key ≡ None → ⊥
 row_of_word rows key word mask is some none = some (ap (λ w. bit_and w mask) (is ∙ word_of-none rows key none) ∙ and_zero mask)
+
+written-none : (rows : List (ℕ × ℕ)) (key : ℕ) → row_at rows key ≡ None → Written rows rows key 0
+written-none rows key none other = elim (cases_eq key other) [
+  | inl same ↦ ap (word_of rows) (sym same) ∙ word_of-none rows key none ∙ sym (ap (λ t. cond t 0 (word_of rows other)) (eq-eqb key other same))
+  | inr apart ↦ sym (ap (λ t. cond t 0 (word_of rows other)) (ne_eqb key other apart))
+]
+
+-- nothing is taken from a name that has no row
+pub on-missing : (rows : List (ℕ × ℕ)) (name place key : ℕ) → place < 65536 → key ≡ row_key name place → row_at rows key ≡ None
+    → (n q : ℕ) → on rows n q ≡ (not (eqb n name && eqb q place) && on rows n q)
+on-missing rows name place key small same none =
+    let gone : row_at rows (row_key name place) ≡ None = ap (row_at rows) (sym same) ∙ none in
+    on-removed rows rows name place 0 small (sym (word_of-none rows (row_key name place) gone))
+    (written_as rows rows (row_key name place) 0 _ (sym (and_zero (bit_not w64 (1 * 2 ^ (place % 64) % 2 ^ 64)))) (written-none rows (row_key name place) gone))
 
 -- ---- the next place of a name
 

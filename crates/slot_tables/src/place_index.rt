@@ -83,8 +83,12 @@ impl PlaceIndex {
         ensures as_before { OnErr result (self.new ≡ self.old) }
     {
         let key = row_key(name, place);
-        let word = self.rows.get(&key).copied().unwrap_or(0);
-        self.rows.insert(key, word | (1 << (place % 64)))?;
+        let bit = 1 << (place % 64);
+        if let Some(word) = self.rows.get_mut(&key) {
+            *word |= bit;
+            return Ok(());
+        }
+        self.rows.insert(key, bit)?;
         Ok(())
     }
 
@@ -96,8 +100,10 @@ impl PlaceIndex {
         ensures rows { (n q : ℕ) → has_row self.old n q ≡ true → has_row self.new n q ≡ true }
     {
         let key = row_key(name, place);
-        let word = self.rows.get(&key).copied().unwrap_or(0);
-        let _ = self.rows.insert(key, word | (1 << (place % 64)));
+        let Some(word) = self.rows.get_mut(&key) else {
+            unreachable!()
+        };
+        *word |= 1 << (place % 64);
     }
 
     /// Takes a place from the name, if it has it. A row of the name that has no place any more is given up.
@@ -107,12 +113,13 @@ impl PlaceIndex {
         ensures rows { (n q : ℕ) → q < 65536 → (n ≡ name → ⊥) → has_row self.old n q ≡ true → has_row self.new n q ≡ true }
     {
         let key = row_key(name, place);
-        let word = self.rows.get(&key).copied().unwrap_or(0);
-        let rest = word & !(1 << (place % 64));
+        let Some(word) = self.rows.get_mut(&key) else {
+            return;
+        };
+        let rest = *word & !(1 << (place % 64));
+        *word = rest;
         if rest == 0 {
             let _ = self.rows.remove(&key);
-        } else {
-            let _ = self.rows.insert(key, rest);
         }
     }
 

@@ -4,7 +4,7 @@ use Rattle.access_vectors.specs.declared.phase.Phase.{Phase}
 use Rattle.access_vectors.specs.declared.phase.Phase.TheVariants.{Settled, Pending}
 use Rattle.manager_history.specs.declared.entry.Entry.{Entry}
 use Rattle.manager_history.specs.declared.entry.Entry.TheVariants.{Ack}
-use Rattle.epoch_gate.specs.Seats.{Shown}
+use Rattle.epoch_gate.specs.Seats.{SeatView}
 use Rattle.managed_run.specs.Kinds.{phase_of}
 use Rattle.managed_run.specs.Ends.{HasEndedWith}
 
@@ -18,7 +18,7 @@ abbrev pub settled : {Call Reply : Type 0} → List (Entry Call Reply) → List 
 settled log = log ++ settling (phase_of log)
 
 -- a station ended with a history, of which the administrator knows what it knows at the end, and which was settled then
-pub record HasSettled {Call Reply D O : Type 0} (admin : Shown (Entry Call Reply) D O) (log : List (Entry Call Reply)) : Type 0 where
+pub record HasSettled {Call Reply D O : Type 0} (admin : SeatView (Entry Call Reply) D O) (log : List (Entry Call Reply)) : Type 0 where
   pub closed : List (Entry Call Reply)
   pub ended : HasEndedWith admin closed
   pub settled_is : log ≡ settled closed

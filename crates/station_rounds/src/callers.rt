@@ -3,7 +3,7 @@
 ghost use Rattle.std.specs.Prelude.{◌≡◌, length, All, IfSome, IsSome};
 ghost use Rattle.epoch_gate.specs.Seats.{IsOfGate};
 ghost use Rattle.epoch_gate.specs.Known.{IsIdle, seats_made};
-ghost use Rattle.example_board.specs.Plain.{IsCall};
+ghost use Rattle.example_board.specs.PlainManager.{IsCall};
 ghost use Rattle.station_rounds.specs.Seated.{IsFreeAt};
 
 use crate::board::{Board, Chair, Office, called};

@@ -3,7 +3,7 @@ use Rattle.std.proofs.Common.{◌≡◌, ◌∙◌, ◌<◌, ◌≤◌, ◌+◌,
 use Rattle.std.specs.Prelude.{slice_get}
 use Rattle.retained_rights.specs.declared.callbacks.AllBits.{AllBits}
 use Rattle.retained_rights.specs.declared.callbacks.EachBits.{EachBits}
-use Rattle.epoch_gate.specs.Seats.{Shown, Site, IsOfGate}
+use Rattle.epoch_gate.specs.Seats.{SeatView, Site, IsOfGate}
 use Rattle.epoch_gate.specs.Known.{seats_made, seats_allowed}
 use Rattle.epoch_gate.specs.Calls.{HasMade}
 use Rattle.client_script.specs.declared.stations.Stations.{Stations}
@@ -25,23 +25,23 @@ length_more (y ∷ items) x = omega (arith, length_more items x)
 
 module _ {E D O : Type 0} where
   -- at a station that has no seat yet
-  none_at : (count : ℕ) (site : Site D O) (admin : Shown E D O) → MaySeatAllAt count site admin → HasSeatedAllAt 0 site admin admin
+  none_at : (count : ℕ) (site : Site D O) (admin : SeatView E D O) → MaySeatAllAt count site admin → HasSeatedAllAt 0 site admin admin
   none_at count site admin may = record { gate = may.gate; made = may.none; retired = refl; turns = refl; seen = refl; number = refl; version = refl; ticket = refl }
 
   -- there is room for one more
-  room_at : (count made : ℕ) (site : Site D O) (old now : Shown E D O) → made < count → MaySeatAllAt count site old → HasSeatedAllAt made site old now → MaySeatAt site now
+  room_at : (count made : ℕ) (site : Site D O) (old now : SeatView E D O) → made < count → MaySeatAllAt count site old → HasSeatedAllAt made site old now → MaySeatAt site now
   room_at count made site old now below may seated = record { gate = seated.gate; room = omega (arith, may.room, seated.made, below) }
 
   -- one seat more was made
-  more_at : (made : ℕ) (site : Site D O) (old now next : Shown E D O) → HasSeatedAllAt made site old now → IsOfGate site next × HasMade now next → HasSeatedAllAt (made + 1) site old next
+  more_at : (made : ℕ) (site : Site D O) (old now next : SeatView E D O) → HasSeatedAllAt made site old now → IsOfGate site next × HasMade now next → HasSeatedAllAt (made + 1) site old next
   more_at made site old now next seated more = record {
     gate = more.0;
-    made = ap (λ v. v.desk.made) more.1 ∙ ap (λ (n : ℕ). n + 1) seated.made;
-    retired = ap (λ v. v.desk.ended) more.1 ∙ seated.retired;
-    turns = ap (λ v. v.desk.turns) more.1 ∙ seated.turns;
+    made = ap (λ v. v.admin_view.made) more.1 ∙ ap (λ (n : ℕ). n + 1) seated.made;
+    retired = ap (λ v. v.admin_view.ended) more.1 ∙ seated.retired;
+    turns = ap (λ v. v.admin_view.turns) more.1 ∙ seated.turns;
     seen = ap (λ v. v.seen) more.1 ∙ seated.seen;
-    number = ap (λ v. v.desk.newest) more.1 ∙ seated.number;
-    version = ap (λ v. v.desk.version) more.1 ∙ seated.version;
+    number = ap (λ v. v.admin_view.newest) more.1 ∙ seated.number;
+    version = ap (λ v. v.admin_view.version) more.1 ∙ seated.version;
     ticket = ap (λ v. v.ticket) more.1 ∙ seated.ticket;
   }
 

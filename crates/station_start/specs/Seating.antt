@@ -1,6 +1,6 @@
 -- Clients get their seats.
 use Rattle.std.specs.Prelude.{◌≡◌, ℕ, ◌<◌, ◌≤◌, List, length, slice_get, Some}
-use Rattle.epoch_gate.specs.Seats.{Shown, Site, IsOfGate}
+use Rattle.epoch_gate.specs.Seats.{SeatView, Site, IsOfGate}
 use Rattle.epoch_gate.specs.Known.{seen_by, seats_allowed, seats_made, seats_retired, turns_had, current_number, current_version}
 use Rattle.epoch_gate.specs.Calls.{IsNew, HasMade}
 use Rattle.retained_rights.specs.declared.callbacks.AllBits.{AllBits}
@@ -12,25 +12,25 @@ use Rattle.station_start.specs.declared.started.Admins.{Admins}
 
 module _ {E D O : Type 0} where
   -- a station may have one seat more, made by its own administrator
-  pub record MaySeatAt (site : Site D O) (admin : Shown E D O) : Type 0 where
+  pub record MaySeatAt (site : Site D O) (admin : SeatView E D O) : Type 0 where
     pub gate : IsOfGate site admin
     pub room : seats_made admin < seats_allowed site
 
   -- a station has one seat more, which is new
-  pub record HasSeatedAt (site : Site D O) (old seat new : Shown E D O) : Type 0 where
+  pub record HasSeatedAt (site : Site D O) (old seat new : SeatView E D O) : Type 0 where
     pub seat_gate : IsOfGate site seat
     pub seat_new : IsNew old seat
     pub gate : IsOfGate site new
     pub made : HasMade old new
 
   -- a station may have so many seats, and has none yet
-  pub record MaySeatAllAt (count : ℕ) (site : Site D O) (admin : Shown E D O) : Type 0 where
+  pub record MaySeatAllAt (count : ℕ) (site : Site D O) (admin : SeatView E D O) : Type 0 where
     pub gate : IsOfGate site admin
     pub none : seats_made admin ≡ 0
     pub room : count ≤ seats_allowed site
 
   -- so many seats are made at a station, and else its administrator is as before
-  pub record HasSeatedAllAt (count : ℕ) (site : Site D O) (old new : Shown E D O) : Type 0 where
+  pub record HasSeatedAllAt (count : ℕ) (site : Site D O) (old new : SeatView E D O) : Type 0 where
     pub gate : IsOfGate site new
     pub made : seats_made new ≡ count
     pub retired : seats_retired new ≡ seats_retired old

@@ -4,7 +4,7 @@ ghost use Rattle.std.specs.Prelude.{◌≡◌, [], None, IfOk};
 ghost use Rattle.std.specs.FinMap as maps;
 ghost use Rattle.access_vectors.specs.declared.phase.Phase.{Phase};
 ghost use Rattle.epoch_gate.specs.Opening.{refusal};
-ghost use Rattle.session_desk.specs.Desks.{AreOpenings};
+ghost use Rattle.session_managers.specs.SessionViews.{AreOpenings};
 ghost use Rattle.station_start.specs.Starts.{IsOpened, HasStarted};
 
 use crate::started::{Admins, Limits, Started};
@@ -18,7 +18,7 @@ use manager_history::{Core, Keeper};
 use port_manager::PortCore;
 use process_manager::ProcessCore;
 use retained_rights::{AllBits, EachBits};
-use session_desk::Openings;
+use session_managers::Openings;
 use std::alloc::Global;
 
 /// A station, and its administrator.

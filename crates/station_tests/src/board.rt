@@ -3,7 +3,7 @@
 ghost use Rattle.std.specs.Prelude.{◌≡◌, ◌<◌, ◌∷◌, [], length, IfOk, IfSome};
 ghost use Rattle.epoch_gate.specs.Seats.{IsOfGate};
 ghost use Rattle.epoch_gate.specs.Known.{IsIdle, HasNoPass, caller_number, seats_made};
-ghost use Rattle.example_board.specs.Plain.{IsCall};
+ghost use Rattle.example_board.specs.PlainManager.{IsCall};
 
 use access_vectors::perms::FILE_READ;
 use access_vectors::{Class, Decider, Vector};

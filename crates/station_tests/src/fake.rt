@@ -4,7 +4,7 @@ ghost use Rattle.std.specs.Prelude.{◌≡◌, ◌<◌, [], length, IfSome};
 ghost use Rattle.std.specs.FinMap as maps;
 ghost use Rattle.epoch_gate.specs.Seats.{IsOfGate};
 ghost use Rattle.epoch_gate.specs.Known.{IsIdle, HasPass, HasNoPass};
-ghost use Rattle.example_board.specs.Plain.{IsCall};
+ghost use Rattle.example_board.specs.PlainManager.{IsCall};
 
 use crate::board::{Counting, scripted, two_clients};
 use access_vectors::{Asker, Decider, Questions, Steps};

@@ -5,8 +5,7 @@ ghost use Rattle.std.specs.List.{list_all, position};
 ghost use Rattle.text_lines.specs.Lines;
 
 use crate::fault::FaultKind;
-use crate::words::{Words, is_word_byte};
-use flask_sid::Word;
+use crate::words::{Words, behind_gaps, is_word_byte};
 use memchr::memchr;
 
 /// The greatest number that a line may have.
@@ -49,7 +48,7 @@ pub fn line_words<'a>(number: u32, line: &'a [u8]) -> Result<Words<'a>, FaultKin
     if !may_all_stand(line) {
         return Err(FaultKind::Syntax);
     }
-    Ok(said_words(Words::new(line)))
+    Ok(said_words(line))
 }
 
 fn may_all_stand(line: &[u8]) -> bool
@@ -69,28 +68,19 @@ fn may_stand(b: u8) -> bool
     is_word_byte(b) || b == b' ' || b == b'\t'
 }
 
-#[tactic(auto, unfolding(crate::specs::Lines::said_words))]
-fn said_words<'a>(words: Words<'a>) -> Words<'a>
-    ensures { result ≡ Lines.said_words words.entry }
+// The words of a line. A comment is told by the first byte that is no gap, so the first word is not cut for it.
+fn said_words<'a>(line: &'a [u8]) -> Words<'a>
+    ensures { result ≡ Lines.said_words (Lines.words_of line.now) }
 {
-    let mut rest = words.again();
-    match rest.next() {
-        None => words,
-        Some(first) => {
-            if is_comment(&first) {
+    let rest = behind_gaps(line);
+    match rest {
+        [] => Words::none(),
+        [first, ..] => {
+            if *first == b'#' {
                 Words::none()
             } else {
-                words
+                Words::new(rest)
             }
         }
-    }
-}
-
-fn is_comment(word: &Word<'_>) -> bool
-    ensures { result ≡ Lines.is_comment word.now }
-{
-    match word.as_bytes() {
-        [] => false,
-        [first, ..] => *first == b'#',
     }
 }

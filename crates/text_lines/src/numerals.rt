@@ -26,6 +26,17 @@ pub fn put_number(out: &mut Piece, number: u64) -> Result<(), Memory>
     ensures ok { OnOk result (out.new ≡ out.old ++ decimal number) }
     ensures err { OnErr result (out.new ≡ out.old) }
 {
+    // Most numbers that are printed have one digit, and need no buffer.
+    if number < 10 {
+        return out.push(b'0' + number as u8);
+    }
+    put_digits(out, number)
+}
+
+fn put_digits(out: &mut Piece, number: u64) -> Result<(), Memory>
+    ensures ok { OnOk result (out.new ≡ out.old ++ decimal number) }
+    ensures err { OnErr result (out.new ≡ out.old) }
+{
     let mut buffer = Buffer::new();
     out.extend(buffer.format(number).as_bytes())
 }

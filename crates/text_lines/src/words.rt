@@ -1,8 +1,8 @@
 //! The words of a line.
 
-ghost use Rattle.std.specs.Prelude.{◌≡◌, [], ◌∷◌, MatchOption, true};
-ghost use Rattle.std.specs.List.{position};
-ghost use Rattle.text_lines.specs.Lines.{begins_word, is_gap, is_word_byte, words_of};
+ghost use Rattle.std.specs.Prelude.{◌≡◌, ◌≤◌, [], ◌∷◌, MatchOption, length, true};
+ghost use Rattle.std.specs.List.{All, position};
+ghost use Rattle.text_lines.specs.Lines.{begins_word, is_filled, is_gap, is_word_byte, words_of};
 
 use flask_sid::Word;
 use std::marker::Model;
@@ -51,6 +51,13 @@ impl<'a> Words<'a> {
         Words { rest: self.rest }
     }
 
+    /// Whether the bytes that are left are so few that no word has more than `most`. Where they are more, that is not known.
+    pub fn are_within(&self, most: usize) -> bool
+        ensures { result ≡ true → All (λ word. length word ≤ most) self.now }
+    {
+        self.rest.len() <= most
+    }
+
     /// Takes the first word off, or answers `None` where there is none.
     pub fn next(&mut self) -> Option<Word<'a>>
         ensures { MatchOption result ((self.old ≡ []) × (self.new ≡ []))
@@ -82,7 +89,14 @@ fn is_gap(b: u8) -> bool
 fn place_of_gap(bytes: &[u8]) -> Option<usize>
     ensures { result ≡ position is_gap bytes.now }
 {
-    bytes.iter().position(|b| is_gap(*b))
+    let mut at = 0;
+    'bytes: while at < bytes.len() {
+        if is_gap(bytes[at]) {
+            return Some(at);
+        }
+        at += 1;
+    }
+    None
 }
 
 // The word with which the bytes begin, and what stands behind the gap that ends it.
@@ -105,13 +119,26 @@ fn split_word(bytes: &[u8]) -> Option<(&[u8], &[u8])>
     ensures { MatchOption result (words_of bytes.now ≡ [])
         (λ parts. words_of bytes.now ≡ parts.0.now ∷ words_of parts.1.now) }
 {
+    let rest = behind_gaps(bytes);
+    if rest.is_empty() {
+        None
+    } else {
+        Some(first_word(rest))
+    }
+}
+
+/// The bytes from the first word on, or none where there is no word.
+pub(crate) fn behind_gaps(bytes: &[u8]) -> &[u8]
+    ensures words { words_of result.now ≡ words_of bytes.now }
+    ensures begins { begins_word result.now ≡ is_filled result.now }
+{
     let mut rest = bytes;
     'gaps: while !rest.is_empty() {
         if is_word_byte(rest[0]) {
-            return Some(first_word(rest));
+            return rest;
         }
         let (_, after) = rest.split_at(1);
         rest = after;
     }
-    None
+    rest
 }

@@ -6,7 +6,7 @@ use Rattle.access_vectors.specs.declared.phase.Phase.TheVariants.{Settled}
 use Rattle.retained_rights.specs.declared.callbacks.EachBits.{EachBits}
 use Rattle.retained_rights.specs.declared.callbacks.AllBits.{AllBits}
 use Rattle.manager_history.specs.declared.entry.Entry.{Entry}
-use Rattle.epoch_gate.specs.Seats.{Shown, Site}
+use Rattle.epoch_gate.specs.Seats.{SeatView, Site}
 use Rattle.managed_run.specs.Kinds.{phase_of}
 use Rattle.managed_run.specs.Administering.{seen_of}
 use Rattle.managed_run.specs.declared.docket.Opened.{Opened}
@@ -23,7 +23,7 @@ pub all_none : {X : Type 0} (P : X → Type 0) (items : List X) → items ≡ []
 all_none P items none = subst (All P) (sym none) (λ k d below. let no : ⊥ = omega (arith, below) in absurd no)
 
 module _ {D : Type 0} (decides : D → Decisions) (decider : D) (most : ℕ) where
-  placed : {C Call Reply : Type 0} (place seats : ℕ) (site : Site D (Opened C)) (admin : Shown (Entry Call Reply) D (Opened C)) → IsStation decider most place site → IsBefore seats site admin
+  placed : {C Call Reply : Type 0} (place seats : ℕ) (site : Site D (Opened C)) (admin : SeatView (Entry Call Reply) D (Opened C)) → IsStation decider most place site → IsBefore seats site admin
       → IsPlaced (decides decider).versions (opened decider 3 most) 0 place (seen_of decides (record { site = site; admin = admin }))
   placed place seats site admin of before = record {
     numbered = of.manager_is;

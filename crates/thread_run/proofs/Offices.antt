@@ -9,7 +9,7 @@ use Rattle.retained_rights.specs.declared.callbacks.AllBits.{AllBits}
 use Rattle.manager_history.specs.declared.entry.Entry.{Entry}
 use Rattle.managed.specs.Seen.{Turn}
 use Rattle.gate_rule.specs.declared.view.Item.{Item}
-use Rattle.epoch_gate.specs.Seats.{Shown}
+use Rattle.epoch_gate.specs.Seats.{SeatView}
 use Rattle.epoch_gate.specs.Known.{seats_made, seats_retired, turns_had}
 use Rattle.managed_run.specs.Changes.{or_none, IsClear}
 use Rattle.managed_run.specs.Administering.{turn_of}
@@ -97,7 +97,7 @@ clear_turns (item ∷ items) all =
     ap (λ (b : Bool). b && list_all is_clear (map turn_of items)) (one_clear item (All-head IsClear item items all)) ∙ clear_turns items (All-tail IsClear item items all)
 
 -- the turns of one administrator, which had none before
-walked_one : {Call Reply D O : Type 0} (lines : List RunLine) (chosen : List (ℕ × ℕ)) (was now : Shown (Entry Call Reply) D O) (turns more : List Turn) → turns_had was ≡ []
+walked_one : {Call Reply D O : Type 0} (lines : List RunLine) (chosen : List (ℕ × ℕ)) (was now : SeatView (Entry Call Reply) D O) (turns more : List Turn) → turns_had was ≡ []
     → Some (map turn_of (turns_had was)) ≡ Some turns → Some (map turn_of (turns_had now)) ≡ Some (turns ++ more) → notices_of more ≡ chosen → (forces lines ≡ false → forced_of more ≡ [])
     → IsWalked lines chosen (map turn_of (turns_had now))
 walked_one lines chosen was now turns more none first then notices unforced =

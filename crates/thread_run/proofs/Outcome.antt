@@ -11,7 +11,7 @@ use Rattle.gate_rule.specs.declared.view.Pass.{Pass}
 use Rattle.gate_rule.specs.declared.view.Pass.TheVariants.{Out, Inside}
 use Rattle.gate_rule.specs.declared.view.Item.{Item}
 use Rattle.managed.specs.Seen.{Turn}
-use Rattle.epoch_gate.specs.Seats.{Shown, Site}
+use Rattle.epoch_gate.specs.Seats.{SeatView, Site}
 use Rattle.epoch_gate.specs.Known.{decider_of, seats_made, turns_had}
 use Rattle.session_text.specs.declared.session.RunLine.{RunLine}
 use Rattle.session_text.specs.declared.session.SessionParts.{SessionParts}
@@ -101,7 +101,7 @@ module _ {D : Type 0} (decides : D → Decisions) (prepared : Prepared D) (may :
           ports = record { gate = done.seated.ports.0; out = no_pass now.seats.ports.view.rights.pass done.given.ports; idle = done.seated.ports.1 };
         }) (slots_of prepared.seats.items prepared.scripts.items) slots worked
 
-    manned : {E O : Type 0} (site : Site D O) (was now : Shown E D O) → IsBefore (length prepared.seats.items) site was → IsAfter site was now → IsManned (length slots) site now
+    manned : {E O : Type 0} (site : Site D O) (was now : SeatView E D O) → IsBefore (length prepared.seats.items) site was → IsAfter site was now → IsManned (length slots) site now
     manned site was now before then = record { gate = then.gate; idle = then.idle; made = then.made ∙ (before.made ∙ sym many); retired = then.retired ∙ before.retired }
 
     pub are_manned : AreManned (length slots) prepared.stations admins

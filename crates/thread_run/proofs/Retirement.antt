@@ -9,7 +9,7 @@ use Rattle.retained_rights.specs.declared.callbacks.AllBits.{AllBits}
 use Rattle.manager_history.specs.declared.entry.Entry.{Entry}
 use Rattle.gate_rule.specs.declared.view.Ended.{Ended}
 use Rattle.gate_rule.specs.declared.view.Item.{Item}
-use Rattle.epoch_gate.specs.Seats.{Shown, Site, IsOfGate}
+use Rattle.epoch_gate.specs.Seats.{SeatView, Site, IsOfGate}
 use Rattle.epoch_gate.specs.Known.{caller_number, own_entries, seats_made, seats_retired, turns_had}
 use Rattle.managed_run.specs.Administering.{turn_of}
 use Rattle.session_text.specs.declared.session.Run.{Run}
@@ -24,9 +24,9 @@ use Rattle.station_start.specs.declared.started.Admins.{Admins}
 use Rattle.thread_run.specs.Runs.{kept_of, HasRetiredAll, IsManned, AreManned, HaveAllLeft, WasRun}
 use Rattle.thread_run.proofs.Lists.{map_map, map_length, item_at, mapped_at}
 
-module _ {S E D O : Type 0} (seat_of : S → Shown E D O) where
+module _ {S E D O : Type 0} (seat_of : S → SeatView E D O) where
   -- once no seat is left, all are retired
-  pub left_all : (site : Site D O) (all left : List S) (start now : Shown E D O) → IsOfGate site now → IsRetiring seat_of all left start now → left ≡ [] → HasRetiredAll site (map seat_of all) start now
+  pub left_all : (site : Site D O) (all left : List S) (start now : SeatView E D O) → IsOfGate site now → IsRetiring seat_of all left start now → left ≡ [] → HasRetiredAll site (map seat_of all) start now
   left_all site all left start now gate on none =
       let done = all_retired seat_of all left start now on none in
       record {
@@ -38,12 +38,12 @@ module _ {S E D O : Type 0} (seat_of : S → Shown E D O) where
       }
 
   -- the administrator keeps exactly these seats
-  pub kept_are : (site : Site D O) (count : ℕ) (all : List S) (was now : Shown E D O) → IsManned count site was → HasRetiredAll site (map seat_of all) was now
+  pub kept_are : (site : Site D O) (count : ℕ) (all : List S) (was now : SeatView E D O) → IsManned count site was → HasRetiredAll site (map seat_of all) was now
       → seats_retired now ≡ map (λ seats. kept_of (seat_of seats)) all
   kept_are site count all was now manned done =
       done.ended ∙ (ap (λ (l : List (Ended E)). l ++ map kept_of (map seat_of all)) manned.retired ∙ map_map kept_of seat_of all)
 
-module _ {S Call Reply D O : Type 0} (seat_of : S → Shown (Entry Call Reply) D O) (all : List S) (site : Site D O) (was now : Shown (Entry Call Reply) D O)
+module _ {S Call Reply D O : Type 0} (seat_of : S → SeatView (Entry Call Reply) D O) (all : List S) (site : Site D O) (was now : SeatView (Entry Call Reply) D O)
     (manned : IsManned (length all) site was) (done : HasRetiredAll site (map seat_of all) was now) where
   pub may_end : MayEnd site now
   may_end = record {

@@ -5,7 +5,7 @@ use Rattle.retained_rights.specs.declared.callbacks.EachBits.{EachBits}
 use Rattle.retained_rights.specs.declared.callbacks.AllBits.{AllBits}
 use Rattle.manager_history.specs.declared.entry.Entry.{Entry}
 use Rattle.managed.specs.Seen.{Seen}
-use Rattle.epoch_gate.specs.Seats.{Shown, Site, IsOfGate}
+use Rattle.epoch_gate.specs.Seats.{SeatView, Site, IsOfGate}
 use Rattle.epoch_gate.specs.Known.{decider_of, greatest_number, seen_by, seats_made, seats_retired, turns_had, IsIdle}
 use Rattle.managed_run.specs.declared.docket.Opened.{Opened}
 use Rattle.managed_run.specs.Administering.{Holding, IsHolding, IsSameHolding, seen_of, turn_of}
@@ -42,7 +42,7 @@ module _ {C D : Type 0} where
 module _ {E D O : Type 0} where
   -- the administrator of a station before a run: it is the station's and has not the turn; it made so many seats and retired none; and
   -- it had no turn, and has seen no entry
-  pub record IsBefore (seats : ℕ) (site : Site D O) (admin : Shown E D O) : Type 0 where
+  pub record IsBefore (seats : ℕ) (site : Site D O) (admin : SeatView E D O) : Type 0 where
     pub gate : IsOfGate site admin
     pub idle : IsIdle admin
     pub made : seats_made admin ≡ seats
@@ -52,7 +52,7 @@ module _ {E D O : Type 0} where
 
   -- the administrator of a station after its worker has ended: it is the station's and has not the turn, and the seats that it made and
   -- retired are as before
-  pub record IsAfter (site : Site D O) (was now : Shown E D O) : Type 0 where
+  pub record IsAfter (site : Site D O) (was now : SeatView E D O) : Type 0 where
     pub gate : IsOfGate site now
     pub idle : IsIdle now
     pub made : seats_made now ≡ seats_made was

@@ -7,7 +7,7 @@ use Rattle.access_vectors.specs.Decisions.{Decisions}
 use Rattle.retained_rights.specs.declared.callbacks.EachBits.{EachBits}
 use Rattle.retained_rights.specs.declared.callbacks.AllBits.{AllBits}
 use Rattle.gate_rule.specs.declared.view.Ended.{Ended}
-use Rattle.epoch_gate.specs.Seats.{Shown, Site, IsOfGate}
+use Rattle.epoch_gate.specs.Seats.{SeatView, Site, IsOfGate}
 use Rattle.epoch_gate.specs.Known.{decider_of, caller_number, own_entries, seats_made, seats_retired, turns_had, IsIdle}
 use Rattle.managed_run.specs.Administering.{turn_of}
 use Rattle.session_text.specs.declared.session.RunLine.{RunLine}
@@ -27,11 +27,11 @@ use Rattle.thread_run.specs.Managers.{AreStations, AreBefore, MayBegin}
 
 module _ {E D O : Type 0} where
   -- what an administrator keeps of a seat that it retires: its number, and its own entries
-  abbrev pub kept_of : Shown E D O → Ended E
+  abbrev pub kept_of : SeatView E D O → Ended E
   kept_of seat = record { number = caller_number seat; entries = own_entries seat }
 
   -- an administrator that retired these seats more, in order: it is the station's, and has the turns and the turn as before
-  pub record HasRetiredAll (site : Site D O) (seats : List (Shown E D O)) (was now : Shown E D O) : Type 0 where
+  pub record HasRetiredAll (site : Site D O) (seats : List (SeatView E D O)) (was now : SeatView E D O) : Type 0 where
     pub gate : IsOfGate site now
     pub made : seats_made now ≡ seats_made was
     pub ended : seats_retired now ≡ seats_retired was ++ map kept_of seats
@@ -40,7 +40,7 @@ module _ {E D O : Type 0} where
 
   -- the administrator of a station whose clients are to leave: it is the station's and has not the turn; it made so many seats, and
   -- retired none
-  pub record IsManned (seats : ℕ) (site : Site D O) (admin : Shown E D O) : Type 0 where
+  pub record IsManned (seats : ℕ) (site : Site D O) (admin : SeatView E D O) : Type 0 where
     pub gate : IsOfGate site admin
     pub idle : IsIdle admin
     pub made : seats_made admin ≡ seats

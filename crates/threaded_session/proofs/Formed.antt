@@ -5,18 +5,18 @@ use Rattle.std.proofs.lemmas.Bool.{eqb-true}
 use Rattle.std.proofs.lemmas.List.Elements.{All-head, All-tail, All-cons}
 use Rattle.access_vectors.specs.Decisions.{Decisions}
 use Rattle.epoch_gate.specs.Known.{decider_of}
-use Rattle.file_calls.specs.Plain as file
-use Rattle.file_calls.specs.Plain.{IsNamed}
+use Rattle.file_calls.specs.PlainManager as file
+use Rattle.file_calls.specs.PlainManager.{IsNamed}
 use Rattle.file_calls.specs.States as file_states
 use Rattle.file_calls.specs.States.{FileState}
 use Rattle.file_calls.specs.declared.call.FileCall.{FileCall}
 use Rattle.file_calls.specs.declared.call.FileCall.TheVariants as call
-use Rattle.process_calls.specs.Plain as process
+use Rattle.process_calls.specs.PlainManager as process
 use Rattle.process_calls.specs.States as process_states
 use Rattle.process_calls.specs.States.{ProcessState}
 use Rattle.process_calls.specs.declared.call.ProcessCall.{ProcessCall}
 use Rattle.process_calls.specs.declared.call.ProcessCall.TheVariants as process_call
-use Rattle.port_calls.specs.Plain as port
+use Rattle.port_calls.specs.PlainManager as port
 use Rattle.port_calls.specs.States as port_states
 use Rattle.port_calls.specs.States.{PortState}
 use Rattle.port_calls.specs.declared.call.PortCall.{PortCall}

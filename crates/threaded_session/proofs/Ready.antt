@@ -6,7 +6,7 @@ use Rattle.std.specs.Global.{Vec}
 use Rattle.access_vectors.specs.Decisions.{Decisions}
 use Rattle.retained_rights.specs.declared.callbacks.EachBits.{EachBits}
 use Rattle.retained_rights.specs.declared.callbacks.AllBits.{AllBits}
-use Rattle.epoch_gate.specs.Seats.{Shown, Site}
+use Rattle.epoch_gate.specs.Seats.{SeatView, Site}
 use Rattle.managed_run.specs.declared.docket.Opened.{Opened}
 use Rattle.session_text.specs.declared.session.RunLine.{RunLine}
 use Rattle.session_text.specs.declared.session.SessionParts.{SessionParts}
@@ -46,7 +46,7 @@ own_few : (lines : List RunLine) → own_lines lines ≤ length lines
 own_few [] = omega arith
 own_few (line ∷ lines) = omega (arith, one_few (is_administrators line.run), own_few lines)
 
-module _ {C D E : Type 0} (decider : D) (manager : ℕ) (limits : Limits) (site : Site D (Opened C)) (old : Shown E D (Opened C)) (started : IsStarted decider manager limits site old) where
+module _ {C D E : Type 0} (decider : D) (manager : ℕ) (limits : Limits) (site : Site D (Opened C)) (old : SeatView E D (Opened C)) (started : IsStarted decider manager limits site old) where
   -- the station is one of a run
   station : IsStation decider limits.most manager site
   station = record { manager_is = started.manager_is; decider_is = started.decider_is; most_is = started.most }
@@ -56,7 +56,7 @@ module _ {C D E : Type 0} (decider : D) (manager : ℕ) (limits : Limits) (site 
   may_seat count few = record { gate = started.gate; none = started.nothing.made; room = subst (λ (n : ℕ). count ≤ n) (sym started.seats) few }
 
   -- its administrator is as before a run, with these seats made
-  before : (count : ℕ) (new : Shown E D (Opened C)) → HasSeatedAllAt count site old new → IsBefore count site new
+  before : (count : ℕ) (new : SeatView E D (Opened C)) → HasSeatedAllAt count site old new → IsBefore count site new
   before count new seated = record {
     gate = seated.gate;
     idle = seated.ticket ∙ started.nothing.idle;

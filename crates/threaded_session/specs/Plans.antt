@@ -3,7 +3,7 @@ use Rattle.std.specs.Prelude.{◌≡◌, ◌≤◌, IsTrue, length, All}
 use Rattle.access_vectors.specs.Decisions.{Decisions}
 use Rattle.session_text.specs.Sessions.{IsRun}
 use Rattle.session_text.specs.declared.session.SessionParts.{SessionParts}
-use Rattle.session_desk.specs.Desks.{AreOpenings}
+use Rattle.session_managers.specs.SessionViews.{AreOpenings}
 use Rattle.run_histories.specs.Histories.{file_opening, process_opening, port_opening}
 use Rattle.threaded_session.specs.declared.plan.Plan.{Plan}
 

@@ -1,6 +1,6 @@
 //! What a session is run with.
 
-use session_desk::Openings;
+use session_managers::Openings;
 use session_text::RunLine;
 
 /// What a session is run with: what its managers are opened with, how many clients it has, and its lines.

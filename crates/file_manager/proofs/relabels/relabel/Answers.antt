@@ -2,7 +2,7 @@
 use Rattle.mode_questions.specs.Operations.{request}
 use Rattle.file_calls.specs.Walks.{walked}
 use Rattle.file_calls.specs.PathCalls.{relabelled_at}
-use Rattle.file_calls.specs.Plain.{follows_moved}
+use Rattle.file_calls.specs.PlainManager.{follows_moved}
 use Rattle.file_store.specs.Stores.{follows}
 use Rattle.file_store.specs.Stores.{state_of}
 use Rattle.file_manager.proofs.AfterWalk.{slots_after, to_found}

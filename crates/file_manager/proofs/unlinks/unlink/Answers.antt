@@ -2,7 +2,7 @@
 use Rattle.mode_questions.specs.Operations.{request}
 use Rattle.file_calls.specs.Walks.{walked}
 use Rattle.file_calls.specs.PathCalls.{unlinked_at}
-use Rattle.file_calls.specs.Plain.{follows_without}
+use Rattle.file_calls.specs.PlainManager.{follows_without}
 use Rattle.file_manager.specs.Walking.{name_of}
 use Rattle.file_store.specs.Stores.{follows}
 use Rattle.file_store.specs.Stores.{state_of}

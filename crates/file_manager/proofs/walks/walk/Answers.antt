@@ -1,7 +1,7 @@
 -- Where a walk along a path ends.
 use Rattle.std.proofs.Common.{[]}
 use Rattle.mode_questions.specs.Operations.{request}
-use Rattle.file_tree.specs.Plain.{plain}
+use Rattle.file_tree.specs.PlainTree.{plain}
 use Rattle.file_calls.specs.Walks.{walked_from}
 use Rattle.file_manager.specs.Walking.{name_of}
 use Rattle.file_manager.proofs.walks.walk.Goals as goal

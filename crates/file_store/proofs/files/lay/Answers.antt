@@ -3,7 +3,7 @@ use Rattle.std.specs.Prelude.{MatchOption}
 use Rattle.std.specs.List.{IsLastAndRest}
 use Rattle.std.specs.FinMap as maps
 use Rattle.file_tree.specs.Nodes.{IsAt, IsFree, path_in, path_of, step_from}
-use Rattle.file_tree.specs.Plain.{plain, steps_of}
+use Rattle.file_tree.specs.PlainTree.{plain, steps_of}
 use Rattle.file_store.proofs.LayLemmas.{nothing_at, steps_pushed}
 use Rattle.file_store.proofs.files.lay.Goals as goal
 

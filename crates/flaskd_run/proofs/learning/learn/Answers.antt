@@ -2,14 +2,14 @@ use Rattle.std.proofs.Common.{◌≡◌, List, length, map, refl, ap, arith, ◌
 use Rattle.session_text.specs.declared.session.ClientLine.{ClientLine}
 use Rattle.session_text.specs.declared.session.SessionParts.{SessionParts}
 use Rattle.session_text.proofs.SessionLemmas.{few_clients}
-use Rattle.session_desk.specs.Days.{morning_of}
-use Rattle.session_desk.specs.Desks.{Standing}
+use Rattle.session_managers.specs.SessionStates.{opening_state}
+use Rattle.session_managers.specs.SessionViews.{Standing}
 use Rattle.audit_allow.specs.Grants.{grants}
 use Rattle.audit_allow.specs.declared.grant.GrantKind.TheVariants.{Allow, Refused}
 use Rattle.policy_versions.specs.declared.catalogue.Catalogue.{Catalogue}
-use Rattle.session_desk.specs.declared.opening.Openings.{Openings}
+use Rattle.session_managers.specs.declared.opening.Openings.{Openings}
 use Rattle.policy_versions.specs.Compiling.{sids_of, decides_of}
-use Rattle.flaskd_run.specs.Serial.{openings_of, morning}
+use Rattle.flaskd_run.specs.Serial.{openings_of, first_state}
 use Rattle.flaskd_run.proofs.OpenedLemmas.{begun_may}
 use Rattle.flaskd_run.proofs.LearningLemmas.{lesson_is}
 use Rattle.flaskd_run.proofs.SerialLemmas.{declared_known, openings_known}
@@ -31,7 +31,7 @@ new-requires-2 g c =
 
 pub learn_lines-requires-clause-may : goal.learn_lines-requires-clause-may
 learn_lines-requires-clause-may g c =
-    rw c.in_ok-desk.ensures
+    rw c.in_ok-managed.ensures
     (begun_may (decides_of c.args.catalogue.now) c.args.session c.in_ok-openings.openings (length c.as_slice-2.result.now) c.into_vec.result.items
     (c.in_ok-openings.ensures ∙ ap (opened_by c.args.session) c.as_slice.ensures) (ap length c.as_slice-2.ensures) c.into_vec.ensures
     c.requires.session (omega (arith, c.into_vec.result.small))
@@ -43,10 +43,10 @@ learn_lines-requires-clause-few g c = rw c.as_slice-2.ensures (few_clients c.arg
 pub returns : goal.returns
 returns g c =
     let opened : c.in_ok-openings.openings ≡ openings_of c.args.session = c.in_ok-openings.ensures ∙ ap (opened_by c.args.session) c.as_slice.ensures in
-    let day : c.in_ok-desk.desk.day ≡ morning c.args.session = ap (λ (standing : Standing Catalogue). standing.day) c.in_ok-desk.ensures ∙ ap morning_of opened in
-    let lesson = lesson_is c.args.version c.args.session (sids_of c.args.catalogue.now) c.sids.result.now c.sids-2.result.now (decides_of c.args.catalogue.now) (decides_of c.in_ok-desk.desk.decider) c.in_ok-desk.desk.day c.into_vec.result.items
+    let state : c.in_ok-managed.managed.state ≡ first_state c.args.session = ap (λ (standing : Standing Catalogue). standing.state) c.in_ok-managed.ensures ∙ ap opening_state opened in
+    let lesson = lesson_is c.args.version c.args.session (sids_of c.args.catalogue.now) c.sids.result.now c.sids-2.result.now (decides_of c.args.catalogue.now) (decides_of c.in_ok-managed.managed.decider) c.in_ok-managed.managed.state c.into_vec.result.items
     c.parts.result.now c.as_slice-3.result.now c.in_ok-denied.denied c.parts.ensures.parts c.sids.ensures c.sids-2.ensures
-    (ap (λ (standing : Standing Catalogue). decides_of standing.decider) c.in_ok-desk.ensures) day c.into_vec.ensures c.as_slice-3.ensures (rw c.new.ensures at c.in_ok-denied.ensures) in
+    (ap (λ (standing : Standing Catalogue). decides_of standing.decider) c.in_ok-managed.ensures) state c.into_vec.ensures c.as_slice-3.ensures (rw c.new.ensures at c.in_ok-denied.ensures) in
     record {
       policy_is = refl;
       allow_is = c.in_ok-learned.ensures.allow ∙ ap (grants Allow) lesson;

@@ -16,13 +16,13 @@ lines-preserved g c =
     let behind : length (into_iter_items c.lines.line-iterator) ≡ length (into_iter_items c.next.new.self) + 1 = ap length step.0 ∙ omega arith in
     record {
       decider = ran.decider ∙ kept.decider;
-      left = left_more (decides c.args.desk.now.decider) (decides c.lines.desk.decider) (length learner.setting.clients.now) c.args.desk.now.day c.lines.desk.day c.learn_line.new.desk.day c.args.lines.items (into_iter_items c.lines.line-iterator) (into_iter_items c.next.new.self) c.in-Some.line
-          kept.left step.0 same ran.day ran.opening;
+      left = left_more (decides c.args.managed.now.decider) (decides c.lines.managed.decider) (length learner.setting.clients.now) c.args.managed.now.state c.lines.managed.state c.learn_line.new.managed.state c.args.lines.items (into_iter_items c.lines.line-iterator) (into_iter_items c.next.new.self) c.in-Some.line
+          kept.left step.0 same ran.state ran.opening;
       whole = ran.whole;
       counted = omega (arith, step.1, kept.counted, behind);
       setting = ran.setting ∙ kept.setting;
       version = ran.version ∙ kept.version;
-      denied = kept_line learner.version learner.setting.policy.now learner.setting.contexts.now (decides c.args.desk.now.decider) (decides c.lines.desk.decider) c.lines.desk.day c.learn_line.new.desk.day c.in-Some.line (into_iter_items c.next.new.self) (into_iter_items c.lines.line-iterator)
-          learner.denied c.lines.learner.denied c.learn_line.new.learner.denied (lines_denials learner.version learner.setting.policy.now learner.setting.contexts.now (decides c.args.desk.now.decider) c.args.desk.now.day c.args.lines.items)
-          kept.denied step.0 same ran.day (rw (kept.setting, kept.version) at ran.denied);
+      denied = kept_line learner.version learner.setting.policy.now learner.setting.contexts.now (decides c.args.managed.now.decider) (decides c.lines.managed.decider) c.lines.managed.state c.learn_line.new.managed.state c.in-Some.line (into_iter_items c.next.new.self) (into_iter_items c.lines.line-iterator)
+          learner.denied c.lines.learner.denied c.learn_line.new.learner.denied (lines_denials learner.version learner.setting.policy.now learner.setting.contexts.now (decides c.args.managed.now.decider) c.args.managed.now.state c.args.lines.items)
+          kept.denied step.0 same ran.state (rw (kept.setting, kept.version) at ran.denied);
     }

@@ -12,16 +12,16 @@ use Rattle.flaskd_run.proofs.running.run_lines.Goals as goal
 pub run_audited-requires-clause-formed : goal.run_audited-requires-clause-formed
 run_audited-requires-clause-formed g c =
     rw c.lines.invariant.decider
-    (all_first (λ (line : RunLine). IsRun (λ sid. IsTrue ((g.D.Decider.decides c.args.desk.now.decider).known sid)) (length c.args.setting.now.clients.now) line.run)
+    (all_first (λ (line : RunLine). IsRun (λ sid. IsTrue ((g.D.Decider.decides c.args.managed.now.decider).known sid)) (length c.args.setting.now.clients.now) line.run)
     (into_iter_items c.lines.line-iterator) (into_iter_items c.next.new.self) c.in-Some.line c.in-Some.ensures.steps.0 c.lines.invariant.left.may.formed)
 
 pub run_audited-requires-clause-calls : goal.run_audited-requires-clause-calls
 run_audited-requires-clause-calls g c =
-    (room_for_one _ _ c.lines.desk.day (into_iter_items c.lines.line-iterator) (into_iter_items c.next.new.self) c.in-Some.line c.lines.invariant.left.may c.in-Some.ensures.steps.0).0
+    (room_for_one _ _ c.lines.managed.state (into_iter_items c.lines.line-iterator) (into_iter_items c.next.new.self) c.in-Some.line c.lines.invariant.left.may c.in-Some.ensures.steps.0).0
 
 pub run_audited-requires-clause-changes : goal.run_audited-requires-clause-changes
 run_audited-requires-clause-changes g c =
-    (room_for_one _ _ c.lines.desk.day (into_iter_items c.lines.line-iterator) (into_iter_items c.next.new.self) c.in-Some.line c.lines.invariant.left.may c.in-Some.ensures.steps.0).1
+    (room_for_one _ _ c.lines.managed.state (into_iter_items c.lines.line-iterator) (into_iter_items c.next.new.self) c.in-Some.line c.lines.invariant.left.may c.in-Some.ensures.steps.0).1
 
 pub lines-preserved : goal.lines-preserved
 lines-preserved g c =
@@ -33,15 +33,15 @@ lines-preserved g c =
     let same = ap decides kept.decider in
     let behind : length (into_iter_items c.lines.line-iterator) ≡ length (into_iter_items c.next.new.self) + 1 = ap length step.0 ∙ omega arith in
     record {
-      written = line_written setting.contexts.now (decides c.args.desk.now.decider) (decides c.lines.desk.decider) setting.clients.now c.lines.desk.day c.run_audited.new.desk.day c.in-Some.line (into_iter_items c.next.new.self) (into_iter_items c.lines.line-iterator) _ _ _ _ c.run_audited.new.out
-          kept.written step.0 same ran.text ran.day c.in_ok-put_line.ensures.ok;
+      written = line_written setting.contexts.now (decides c.args.managed.now.decider) (decides c.lines.managed.decider) setting.clients.now c.lines.managed.state c.run_audited.new.managed.state c.in-Some.line (into_iter_items c.next.new.self) (into_iter_items c.lines.line-iterator) _ _ _ _ c.run_audited.new.out
+          kept.written step.0 same ran.text ran.state c.in_ok-put_line.ensures.ok;
       quiet = omega (arith, kept.quiet, c.in_ok-put_line.ensures.cause.later, c.in_ok-put_line.ensures.cause.quiet (λ is. cc));
       decider = ran.decider ∙ kept.decider;
-      left = left_more (decides c.args.desk.now.decider) (decides c.lines.desk.decider) (length setting.clients.now) c.args.desk.now.day c.lines.desk.day c.run_audited.new.desk.day c.args.lines.items (into_iter_items c.lines.line-iterator) (into_iter_items c.next.new.self) c.in-Some.line
-          kept.left step.0 same ran.day ran.opening;
+      left = left_more (decides c.args.managed.now.decider) (decides c.lines.managed.decider) (length setting.clients.now) c.args.managed.now.state c.lines.managed.state c.run_audited.new.managed.state c.args.lines.items (into_iter_items c.lines.line-iterator) (into_iter_items c.next.new.self) c.in-Some.line
+          kept.left step.0 same ran.state ran.opening;
       counted = omega (arith, step.1, kept.counted, behind);
-      logged = logged_line setting.audited setting.policy.now setting.contexts.now (decides c.args.desk.now.decider) (decides c.lines.desk.decider) c.lines.desk.day c.run_audited.new.desk.day c.in-Some.line (into_iter_items c.next.new.self) (into_iter_items c.lines.line-iterator) c.args.log.now c.lines.log c.run_audited.new.log _
-          kept.logged step.0 same ran.day ran.audit;
+      logged = logged_line setting.audited setting.policy.now setting.contexts.now (decides c.args.managed.now.decider) (decides c.lines.managed.decider) c.lines.managed.state c.run_audited.new.managed.state c.in-Some.line (into_iter_items c.next.new.self) (into_iter_items c.lines.line-iterator) c.args.log.now c.lines.log c.run_audited.new.log _
+          kept.logged step.0 same ran.state ran.audit;
       whole = ran.whole;
       kept = ran.logged ∙ kept.kept;
     }
@@ -53,7 +53,7 @@ returns-in_err-put_line-clause-err g c =
     let ran = c.in_ok-run_audited.ensures in
     let setting = c.args.setting.now in
     on_err_always _ _
-    (line_failed setting.contexts.now (g.D.Decider.decides c.args.desk.now.decider) (g.D.Decider.decides c.lines.desk.decider) setting.clients.now c.lines.desk.day c.in-Some.line (into_iter_items c.next.new.self) (into_iter_items c.lines.line-iterator) _ _ _ _ c.run_audited.new.out
+    (line_failed setting.contexts.now (g.D.Decider.decides c.args.managed.now.decider) (g.D.Decider.decides c.lines.managed.decider) setting.clients.now c.lines.managed.state c.in-Some.line (into_iter_items c.next.new.self) (into_iter_items c.lines.line-iterator) _ _ _ _ c.run_audited.new.out
     kept.written step.0 (ap g.D.Decider.decides kept.decider) ran.text c.in_err-put_line.ensures.err)
 
 pub returns-clause-ok : goal.returns-clause-ok
@@ -62,10 +62,10 @@ returns-clause-ok g c =
     let none = no_items (into_iter_items c.lines.line-iterator) (omega (arith, kept.counted, c.in-None.ensures.steps.0)) in
     offered_all _ _ _ (rw none at kept.written)
 
-pub returns-clause-day : goal.returns-clause-day
-returns-clause-day g c =
+pub returns-clause-state : goal.returns-clause-state
+returns-clause-state g c =
     let kept = c.lines.invariant in
-    none_left (g.D.Decider.decides c.args.desk.now.decider) (length c.args.setting.now.clients.now) c.args.desk.now.day c.lines.desk.day c.args.lines.items (into_iter_items c.lines.line-iterator) kept.left (omega (arith, kept.counted, c.in-None.ensures.steps.0))
+    none_left (g.D.Decider.decides c.args.managed.now.decider) (length c.args.setting.now.clients.now) c.args.managed.now.state c.lines.managed.state c.args.lines.items (into_iter_items c.lines.line-iterator) kept.left (omega (arith, kept.counted, c.in-None.ensures.steps.0))
 
 pub returns-clause-audit : goal.returns-clause-audit
 returns-clause-audit g c =
@@ -78,12 +78,12 @@ lines-init g c =
     let iterated = c.into_iter-line-iterator.ensures.into_iter_gives in
     rw (iterated.0)
     (record {
-      written = nothing_written (g.K.Sink.written c.args.sink.now) (lines_text c.args.setting.now.contexts.now (g.D.Decider.decides c.args.desk.now.decider) c.args.setting.now.clients.now c.args.desk.now.day c.args.lines.items);
+      written = nothing_written (g.K.Sink.written c.args.sink.now) (lines_text c.args.setting.now.contexts.now (g.D.Decider.decides c.args.managed.now.decider) c.args.setting.now.clients.now c.args.managed.now.state c.args.lines.items);
       quiet = refl;
       decider = refl;
-      left = all_left (g.D.Decider.decides c.args.desk.now.decider) (length c.args.setting.now.clients.now) c.args.desk.now.day c.args.lines.items c.requires.may;
+      left = all_left (g.D.Decider.decides c.args.managed.now.decider) (length c.args.setting.now.clients.now) c.args.managed.now.state c.args.lines.items c.requires.may;
       counted = omega (arith, iterated.1, c.args.lines.ok);
-      logged = logged_start c.args.log.now (lines_audit c.args.setting.now.audited c.args.setting.now.policy.now c.args.setting.now.contexts.now (g.D.Decider.decides c.args.desk.now.decider) c.args.desk.now.day c.args.lines.items);
+      logged = logged_start c.args.log.now (lines_audit c.args.setting.now.audited c.args.setting.now.policy.now c.args.setting.now.contexts.now (g.D.Decider.decides c.args.managed.now.decider) c.args.managed.now.state c.args.lines.items);
       whole = c.requires.whole;
       kept = refl;
     })

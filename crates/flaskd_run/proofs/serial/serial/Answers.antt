@@ -2,7 +2,7 @@ use Rattle.std.proofs.Common.{List, length, map, ap, arith, ◌∙◌}
 use Rattle.session_text.specs.declared.session.ClientLine.{ClientLine}
 use Rattle.session_text.specs.declared.session.SessionParts.{SessionParts}
 use Rattle.session_text.proofs.SessionLemmas.{few_clients}
-use Rattle.session_desk.specs.declared.opening.Openings.{Openings}
+use Rattle.session_managers.specs.declared.opening.Openings.{Openings}
 use Rattle.flaskd_run.proofs.OpenedLemmas.{begun_may, text_is}
 use Rattle.flaskd_run.proofs.serial.serial.Goals as goal
 

@@ -12,7 +12,7 @@ returns-in_err-run_quietly-clause-cause g c =
     record { later = omega arith; rose = λ is. absurd (no_write_fault c.from_residual.result c.from_residual.ensures.1 is); quiet = λ _. omega arith }
 
 pub returns-clause-ok : goal.returns-clause-ok
-returns-clause-ok g c = rw (← c.in_ok-run_quietly.ensures.day) c.write_summary.ensures.ok
+returns-clause-ok g c = rw (← c.in_ok-run_quietly.ensures.state) c.write_summary.ensures.ok
 
 pub returns-clause-err : goal.returns-clause-err
-returns-clause-err g c = rw (← c.in_ok-run_quietly.ensures.day) c.write_summary.ensures.err
+returns-clause-err g c = rw (← c.in_ok-run_quietly.ensures.state) c.write_summary.ensures.err

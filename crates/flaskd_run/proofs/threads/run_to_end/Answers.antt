@@ -2,7 +2,7 @@ use Rattle.std.proofs.Common.{List, length, map, refl, ap, arith, ◌∙◌}
 use Rattle.session_text.specs.declared.session.ClientLine.{ClientLine}
 use Rattle.session_text.specs.declared.session.SessionParts.{SessionParts}
 use Rattle.session_text.proofs.SessionLemmas.{few_clients}
-use Rattle.session_desk.specs.declared.opening.Openings.{Openings}
+use Rattle.session_managers.specs.declared.opening.Openings.{Openings}
 use Rattle.threaded_session.specs.declared.plan.Plan.{Plan}
 use Rattle.flaskd_run.proofs.OpenedLemmas.{plan_may, plan_of}
 use Rattle.flaskd_run.proofs.threads.run_to_end.Goals as goal

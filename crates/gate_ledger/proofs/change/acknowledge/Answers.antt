@@ -13,8 +13,8 @@ returns-then-ledger-newest-clause-answer g c =
     let seen = ap (λ (v : _). v.seen) gave in (
       growing.rests _ items _ seen c.take_admin-ledger.ensures.value.2 (sym ledger.settled_is ∙ (c.if-ledger-newest.true ∙ ledger.newest_is)),
       growing.begins_same items _ _ seen c.take_admin-ledger.ensures.learns.0,
-      growing.turn_done w c.give_admin.new.admin.view items 0 (ap (λ (v : _). v.desk.turns) gave) _ None None 0 (ap (λ (v : _). v.desk.turns) took) (growing.none_added w items items (ap (λ (v : _). v.seen) took) refl) (ap (λ (v : _). v.desk.looked) took)
-          (ap (λ (v : _). v.desk.found) took),
+      growing.turn_done w c.give_admin.new.admin.view items 0 (ap (λ (v : _). v.admin_view.turns) gave) _ None None 0 (ap (λ (v : _). v.admin_view.turns) took) (growing.none_added w items items (ap (λ (v : _). v.seen) took) refl) (ap (λ (v : _). v.admin_view.looked) took)
+          (ap (λ (v : _). v.admin_view.found) took),
     )
 
 pub returns-then-older-gt0-clause-answer : goal.returns-then-older-gt0-clause-answer
@@ -30,11 +30,11 @@ returns-then-older-gt0-clause-answer g c =
     let seen = ap (λ (v : _). v.seen) gave in (
       growing.pends _ items _ seen c.take_admin-ledger.ensures.value.2 (λ e. c.if-ledger-newest.false (ledger.settled_is ∙ (e ∙ sym ledger.newest_is))),
       c.if-older-gt0.true,
-      growing.load_shown c.args.admin.now.view u w b c.older-older.result (ap (λ (v : _). v.trace.earlier) gave) (ap (λ (v : _). v.trace.last) counted) c.older-older.ensures.older (ap (λ (v : _). v.desk.newest) took) (ap (λ (v : _). v.desk.counted) took),
+      growing.load_shown c.args.admin.now.view u w b c.older-older.result (ap (λ (v : _). v.trace.earlier) gave) (ap (λ (v : _). v.trace.last) counted) c.older-older.ensures.older (ap (λ (v : _). v.admin_view.newest) took) (ap (λ (v : _). v.admin_view.counted) took),
       growing.begins_same items _ _ seen c.take_admin-ledger.ensures.learns.0,
-      growing.turn_done w b items 0 (ap (λ (v : _). v.desk.turns) gave) _ None (Some c.older-older.result) 0 (ap (λ (v : _). v.desk.turns) counted ∙ ap (λ (v : _). v.desk.turns) took)
+      growing.turn_done w b items 0 (ap (λ (v : _). v.admin_view.turns) gave) _ None (Some c.older-older.result) 0 (ap (λ (v : _). v.admin_view.turns) counted ∙ ap (λ (v : _). v.admin_view.turns) took)
           (growing.none_added w items items (ap (λ (v : _). v.seen) counted ∙ ap (λ (v : _). v.seen) took) refl)
-          (growing.shown _ _ c.older-older.result c.older-older.ensures.older w.desk.looked (ap (λ (v : _). v.desk.looked) counted)) (ap (λ (v : _). v.desk.found) counted ∙ ap (λ (v : _). v.desk.found) took),
+          (growing.shown _ _ c.older-older.result c.older-older.ensures.older w.admin_view.looked (ap (λ (v : _). v.admin_view.looked) counted)) (ap (λ (v : _). v.admin_view.found) counted ∙ ap (λ (v : _). v.admin_view.found) took),
     )
 
 pub give_admin-requires-in-Ok-clause-value : goal.give_admin-requires-in-Ok-clause-value
@@ -62,19 +62,19 @@ returns-in-Ok-clause-answer g c =
     let items = ledger.lines.items in
     let apart = λ (e : _). c.if-ledger-newest.false (ledger.settled_is ∙ (e ∙ sym ledger.newest_is)) in
     let newest = ap (λ (p : _). p.0) c.take_admin-ledger.ensures.learns.1.last in
-    let known = ap (λ (v : _). v.desk.newest) took ∙ (sym newest ∙ sym ledger.newest_is) in
+    let known = ap (λ (v : _). v.admin_view.newest) took ∙ (sym newest ∙ sym ledger.newest_is) in
     let none = c.if-older-gt0.false in
-    let sum : 0 + w.trace.last.found ≡ u.desk.counted = let o = c.older-older.ensures.older in omega (arith, none) in (
+    let sum : 0 + w.trace.last.found ≡ u.admin_view.counted = let o = c.older-older.ensures.older in omega (arith, none) in (
       items,
       growing.pends _ items items refl c.take_admin-ledger.ensures.value.2 apart,
       growing.pending_number _ items c.take_admin-ledger.ensures.value.2 apart ∙ sym ledger.newest_is,
-      growing.load_shown c.args.admin.now.view u w b 0 (ap (λ (v : _). v.trace.earlier) gave) (ap (λ (v : _). v.trace.last) counted) sum (ap (λ (v : _). v.desk.newest) took) (ap (λ (v : _). v.desk.counted) took),
+      growing.load_shown c.args.admin.now.view u w b 0 (ap (λ (v : _). v.trace.earlier) gave) (ap (λ (v : _). v.trace.last) counted) sum (ap (λ (v : _). v.admin_view.newest) took) (ap (λ (v : _). v.admin_view.counted) took),
       (c.take_admin-ledger.ensures.learns.0, ap (λ (v : _). v.seen) gave ∙ c.in-Ok.ensures.ok),
-      growing.turn_done w b c.in-Ok.ledger.lines.items 0 (ap (λ (v : _). v.desk.turns) gave) _ (Some (Settled ledger.newest)) (Some 0) 0 (ap (λ (v : _). v.desk.turns) counted ∙ ap (λ (v : _). v.desk.turns) took)
+      growing.turn_done w b c.in-Ok.ledger.lines.items 0 (ap (λ (v : _). v.admin_view.turns) gave) _ (Some (Settled ledger.newest)) (Some 0) 0 (ap (λ (v : _). v.admin_view.turns) counted ∙ ap (λ (v : _). v.admin_view.turns) took)
           (growing.line_added w items _ (Settled ledger.newest) (ap (λ (v : _). v.seen) counted ∙ ap (λ (v : _). v.seen) took) c.in-Ok.ensures.ok)
-          (growing.shown _ _ c.older-older.result c.older-older.ensures.older w.desk.looked (ap (λ (v : _). v.desk.looked) counted) ∙ ap (λ (x : _). Some x) (omega (arith, none))) (ap (λ (v : _). v.desk.found) counted ∙ ap (λ (v : _). v.desk.found) took),
-      ap (λ (v : _). v.desk.newest) gave ∙ (ap (λ (v : _). v.desk.newest) counted ∙ known),
-      ap (λ (v : _). v.desk.clear) gave ∙ (ap (λ (v : _). v.desk.clear) counted ∙ (growing.cleared _ _ c.older-older.result _ _ c.older-older.ensures.older none ∙ known)),
+          (growing.shown _ _ c.older-older.result c.older-older.ensures.older w.admin_view.looked (ap (λ (v : _). v.admin_view.looked) counted) ∙ ap (λ (x : _). Some x) (omega (arith, none))) (ap (λ (v : _). v.admin_view.found) counted ∙ ap (λ (v : _). v.admin_view.found) took),
+      ap (λ (v : _). v.admin_view.newest) gave ∙ (ap (λ (v : _). v.admin_view.newest) counted ∙ known),
+      ap (λ (v : _). v.admin_view.clear) gave ∙ (ap (λ (v : _). v.admin_view.clear) counted ∙ (growing.cleared _ _ c.older-older.result _ _ c.older-older.ensures.older none ∙ known)),
     )
 
 pub returns-in-Err-clause-err : goal.returns-in-Err-clause-err
@@ -90,11 +90,11 @@ returns-in-Err-clause-err g c =
     let same = c.in-Err.ensures.ok in
     let seen = ap (λ (v : _). v.seen) gave ∙ same in
     let none = c.if-older-gt0.false in
-    let sum : 0 + w.trace.last.found ≡ u.desk.counted = let o = c.older-older.ensures.older in omega (arith, none) in (
+    let sum : 0 + w.trace.last.found ≡ u.admin_view.counted = let o = c.older-older.ensures.older in omega (arith, none) in (
       growing.pends _ items _ seen c.take_admin-ledger.ensures.value.2 (λ e. c.if-ledger-newest.false (ledger.settled_is ∙ (e ∙ sym ledger.newest_is))),
-      growing.load_shown c.args.admin.now.view u w b 0 (ap (λ (v : _). v.trace.earlier) gave) (ap (λ (v : _). v.trace.last) counted) sum (ap (λ (v : _). v.desk.newest) took) (ap (λ (v : _). v.desk.counted) took),
+      growing.load_shown c.args.admin.now.view u w b 0 (ap (λ (v : _). v.trace.earlier) gave) (ap (λ (v : _). v.trace.last) counted) sum (ap (λ (v : _). v.admin_view.newest) took) (ap (λ (v : _). v.admin_view.counted) took),
       growing.begins_same items _ _ seen c.take_admin-ledger.ensures.learns.0,
-      growing.turn_done w b c.in-Err.ledger.lines.items 0 (ap (λ (v : _). v.desk.turns) gave) _ None (Some 0) 0 (ap (λ (v : _). v.desk.turns) counted ∙ ap (λ (v : _). v.desk.turns) took)
+      growing.turn_done w b c.in-Err.ledger.lines.items 0 (ap (λ (v : _). v.admin_view.turns) gave) _ None (Some 0) 0 (ap (λ (v : _). v.admin_view.turns) counted ∙ ap (λ (v : _). v.admin_view.turns) took)
           (growing.none_added w items _ (ap (λ (v : _). v.seen) counted ∙ ap (λ (v : _). v.seen) took) same)
-          (growing.shown _ _ c.older-older.result c.older-older.ensures.older w.desk.looked (ap (λ (v : _). v.desk.looked) counted) ∙ ap (λ (x : _). Some x) (omega (arith, none))) (ap (λ (v : _). v.desk.found) counted ∙ ap (λ (v : _). v.desk.found) took),
+          (growing.shown _ _ c.older-older.result c.older-older.ensures.older w.admin_view.looked (ap (λ (v : _). v.admin_view.looked) counted) ∙ ap (λ (x : _). Some x) (omega (arith, none))) (ap (λ (v : _). v.admin_view.found) counted ∙ ap (λ (v : _). v.admin_view.found) took),
     )

@@ -25,10 +25,10 @@ returns-in-Ok-clause-ok g c =
       subst (λ (m : ℕ). notice_fault (phase_after items) (versions_at g.D.Decider.decides c.args.gate.now) c.args.ver m ≡ None) c.most.ensures (subst (λ (n : ℕ). notice_fault (phase_after items) n c.args.ver c.most.result ≡ None) versions c.in-Ok.ensures.allowed),
       next,
       (learns.0, ap (λ (v : _). v.seen) gave ∙ c.in-Ok.ensures.ok),
-      growing.turn_done w b c.in-Ok.ledger.lines.items 0 (ap (λ (v : _). v.desk.turns) gave) _ (Some (Noticed c.in-Ok.ledger.newest c.args.ver)) None 0 (ap (λ (v : _). v.desk.turns) raised ∙ ap (λ (v : _). v.desk.turns) took)
-          (growing.line_added w items _ (Noticed c.in-Ok.ledger.newest c.args.ver) seen c.in-Ok.ensures.ok) (ap (λ (v : _). v.desk.looked) raised ∙ ap (λ (v : _). v.desk.looked) took) (ap (λ (v : _). v.desk.found) raised ∙ ap (λ (v : _). v.desk.found) took),
-      ap (λ (v : _). v.desk.newest) gave ∙ (ap (λ (v : _). v.desk.newest) raised ∙ (ap (λ (v : _). v.desk.newest + 1) took ∙ (ap (λ (p : _). p.0 + 1) (sym learns.1.last) ∙ sym c.in-Ok.ensures.next))),
-      ap (λ (v : _). v.desk.version) gave ∙ c.raise.ensures.version,
+      growing.turn_done w b c.in-Ok.ledger.lines.items 0 (ap (λ (v : _). v.admin_view.turns) gave) _ (Some (Noticed c.in-Ok.ledger.newest c.args.ver)) None 0 (ap (λ (v : _). v.admin_view.turns) raised ∙ ap (λ (v : _). v.admin_view.turns) took)
+          (growing.line_added w items _ (Noticed c.in-Ok.ledger.newest c.args.ver) seen c.in-Ok.ensures.ok) (ap (λ (v : _). v.admin_view.looked) raised ∙ ap (λ (v : _). v.admin_view.looked) took) (ap (λ (v : _). v.admin_view.found) raised ∙ ap (λ (v : _). v.admin_view.found) took),
+      ap (λ (v : _). v.admin_view.newest) gave ∙ (ap (λ (v : _). v.admin_view.newest) raised ∙ (ap (λ (v : _). v.admin_view.newest + 1) took ∙ (ap (λ (p : _). p.0 + 1) (sym learns.1.last) ∙ sym c.in-Ok.ensures.next))),
+      ap (λ (v : _). v.admin_view.version) gave ∙ c.raise.ensures.version,
     )
 
 pub returns-in-Err-clause-err : goal.returns-in-Err-clause-err
@@ -40,8 +40,8 @@ returns-in-Err-clause-err g c =
     let items = c.take_admin-ledger.result.lines.items in
     let same = c.in-Err.ensures.err.0 in (
       growing.begins_same items _ _ (ap (λ (v : _). v.seen) gave ∙ same) c.take_admin-ledger.ensures.learns.0,
-      growing.turn_done w b c.in-Err.ledger.lines.items 0 (ap (λ (v : _). v.desk.turns) gave) _ None None 0 (ap (λ (v : _). v.desk.turns) took)
-          (growing.none_added w items _ (ap (λ (v : _). v.seen) took) same) (ap (λ (v : _). v.desk.looked) took) (ap (λ (v : _). v.desk.found) took),
-      ap (λ (v : _). v.desk.newest) gave ∙ ap (λ (v : _). v.desk.newest) took,
-      ap (λ (v : _). v.desk.version) gave ∙ ap (λ (v : _). v.desk.version) took,
+      growing.turn_done w b c.in-Err.ledger.lines.items 0 (ap (λ (v : _). v.admin_view.turns) gave) _ None None 0 (ap (λ (v : _). v.admin_view.turns) took)
+          (growing.none_added w items _ (ap (λ (v : _). v.seen) took) same) (ap (λ (v : _). v.admin_view.looked) took) (ap (λ (v : _). v.admin_view.found) took),
+      ap (λ (v : _). v.admin_view.newest) gave ∙ ap (λ (v : _). v.admin_view.newest) took,
+      ap (λ (v : _). v.admin_view.version) gave ∙ ap (λ (v : _). v.admin_view.version) took,
     )

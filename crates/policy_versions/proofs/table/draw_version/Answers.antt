@@ -1,7 +1,10 @@
 use Rattle.std.proofs.Common.{◌∙◌, get_or, length-set, arith}
 use Rattle.policy_versions.specs.Cells.{class_place}
-use Rattle.policy_versions.proofs.TableLemmas.{keeps_on, stand_more, told_where, place_small, some_block}
+use Rattle.policy_versions.proofs.TableLemmas.{blank_on, keeps_on, stand_more, told_where, place_small, some_block}
 use Rattle.policy_versions.proofs.table.draw_version.Goals as goal
+
+pub place-requires-clause-blank : goal.place-requires-clause-blank
+place-requires-clause-blank c = blank_on _ _ c.classes.invariant.keeps c.requires.blank
 
 pub classes-preserved : goal.classes-preserved
 classes-preserved c = record {

@@ -1,10 +1,10 @@
 use Rattle.std.proofs.Common.{List, subst, ap}
 use Rattle.manager_history.specs.Histories.{start_of, IsLawful}
-use Rattle.file_calls.specs.Plain as file_plain
+use Rattle.file_calls.specs.PlainManager as file_plain
 use Rattle.file_calls.specs.States as file_states
-use Rattle.process_calls.specs.Plain as process_plain
+use Rattle.process_calls.specs.PlainManager as process_plain
 use Rattle.process_calls.specs.States as process_states
-use Rattle.port_calls.specs.Plain as port_plain
+use Rattle.port_calls.specs.PlainManager as port_plain
 use Rattle.port_calls.specs.States as port_states
 use Rattle.epoch_gate.specs.Known.{decider_of}
 use Rattle.client_script.specs.Scripts.{file_act, process_act, port_act}

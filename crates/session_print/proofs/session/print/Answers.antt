@@ -1,5 +1,5 @@
 use Rattle.std.proofs.Common.{◌≡◌, ◌∙◌, refl}
-use Rattle.policy_model.specs.Kept.{Kept}
+use Rattle.policy_model.specs.Kept.{IsWholePolicy}
 use Rattle.session_print.specs.Printed
 use Rattle.session_print.proofs.PrintedLaws.{printed_parts}
 use Rattle.session_print.proofs.AgainLaws.{printed_again}
@@ -16,5 +16,5 @@ returns-clause-text c = text c
 
 pub returns-clause-again : goal.returns-clause-again
 returns-clause-again c =
-    let kept : Kept c.args.session.now.policy = rw c.parts-session.ensures.parts at c.parts.ensures.kept in
+    let kept : IsWholePolicy c.args.session.now.policy = rw c.parts-session.ensures.parts at c.parts.ensures.kept in
     rw (text c) (printed_again c.args.session.now kept c.parts-session.ensures.kept)

@@ -1,5 +1,5 @@
 use Rattle.std.proofs.Common.{◌≡◌, ℕ, ◌<◌, ◌≤◌, ◌∙◌, ap, subst, length, get_or, arith}
-use Rattle.file_tree.specs.Plain.{plain}
+use Rattle.file_tree.specs.PlainTree.{plain}
 use Rattle.file_store.proofs.LayLemmas.{laying_first, laying_next, laying_may, laying_done}
 use Rattle.file_store.proofs.NewLemmas.{step_opened, state_opened, follows_opened, safe_opened}
 use Rattle.file_store.proofs.files.Files.new.Goals as goal

@@ -1,4 +1,4 @@
-use Rattle.file_tree.specs.Plain.{IsWellMade, plain}
+use Rattle.file_tree.specs.PlainTree.{IsWellMade, plain}
 use Rattle.file_store.proofs.LayLemmas.{IsLaying}
 use Rattle.file_store.proofs.files.Files.new.Given as goal
 

@@ -2,7 +2,7 @@ use Rattle.std.proofs.Common.{◌≡◌, ◌-◌, ◌++◌, Some, ◌∙◌, sym
 use Rattle.std.specs.Prelude.{MatchOption}
 use Rattle.std.specs.FinMap as maps
 use Rattle.file_tree.specs.Nodes.{IsAt, IsFree, path_in, path_of, step_from}
-use Rattle.file_tree.specs.Plain.{steps_of}
+use Rattle.file_tree.specs.PlainTree.{steps_of}
 use Rattle.file_tree.proofs.BelowLemmas.{below_file, first_step, free_below, walked_on}
 use Rattle.file_tree.proofs.tree.Tree.+find_from.Goals as goal
 

@@ -3,7 +3,7 @@ use Rattle.std.specs.FinMap as maps
 use Rattle.slot_tables.specs.Slots.{map_of}
 use Rattle.file_tree.specs.Shelves.{changed_at}
 use Rattle.file_tree.specs.Nodes.{IsTree, added}
-use Rattle.file_tree.specs.Plain.{plain}
+use Rattle.file_tree.specs.PlainTree.{plain}
 use Rattle.file_tree.proofs.PlainLemmas.{plain_added, once_of, well_made}
 use Rattle.file_tree.proofs.TreeLemmas.{added_tree, len_more, len_within}
 use Rattle.file_tree.proofs.tree.Tree.add.Goals as goal

@@ -2,7 +2,7 @@ use Rattle.std.proofs.Common.{◌++◌, ap, subst, ◌∙◌, is_some}
 use Rattle.std.specs.Prelude.{MatchOption}
 use Rattle.std.specs.FinMap as maps
 use Rattle.file_tree.specs.Nodes.{IsAt, IsFree, path_in}
-use Rattle.file_tree.specs.Plain.{steps_of}
+use Rattle.file_tree.specs.PlainTree.{steps_of}
 use Rattle.file_tree.proofs.TreeLemmas.{directory_is}
 use Rattle.file_tree.proofs.BelowLemmas.{item-is}
 use Rattle.file_tree.proofs.tree.Tree.find.Goals as goal

@@ -5,7 +5,7 @@ use Rattle.slot_tables.specs.Slots.{map_of}
 use Rattle.file_tree.specs.declared.node.Node.{Node}
 use Rattle.file_tree.specs.Nodes.{IsTree}
 use Rattle.file_tree.proofs.TreeLemmas.{root_tree, root_slots, len_more}
-use Rattle.file_tree.specs.Plain.{plain}
+use Rattle.file_tree.specs.PlainTree.{plain}
 use Rattle.file_tree.proofs.PlainLemmas.{plain_root, once_of, well_made}
 use Rattle.file_tree.proofs.tree.Tree.new.Goals as goal
 

@@ -6,7 +6,7 @@ use Rattle.file_tree.specs.Shelves.{changed_at}
 use Rattle.file_tree.specs.Nodes.{IsTree, IsPlaced, HasNoEntry, path_of, step_from}
 use Rattle.file_tree.proofs.Paths.{same_some, last-got}
 use Rattle.file_tree.proofs.TreeLemmas.{removed_tree, len_less, some_len, nothing_out}
-use Rattle.file_tree.specs.Plain.{plain, plain_without}
+use Rattle.file_tree.specs.PlainTree.{plain, plain_without}
 use Rattle.file_tree.proofs.PlainLemmas.{plain_removed, once_of, well_made}
 use Rattle.file_tree.proofs.tree.Tree.remove.Goals as goal
 

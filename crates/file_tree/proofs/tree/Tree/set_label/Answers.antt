@@ -4,7 +4,7 @@ use Rattle.slot_tables.specs.Slots.{map_of}
 use Rattle.file_tree.specs.Nodes.{IsTree, in_place}
 use Rattle.file_tree.proofs.TreeLemmas.{kept_tree, len_same, nothing_out, put_back}
 use Rattle.file_tree.specs.declared.node.Node.{Node}
-use Rattle.file_tree.specs.Plain.{plain, plain_relabelled}
+use Rattle.file_tree.specs.PlainTree.{plain, plain_relabelled}
 use Rattle.file_tree.proofs.PlainLemmas.{plain_kept, once_of, well_made}
 use Rattle.file_tree.proofs.tree.Tree.set_label.Goals as goal
 

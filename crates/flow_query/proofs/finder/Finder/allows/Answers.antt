@@ -1,5 +1,5 @@
 use Rattle.std.proofs.Common.{◌<◌, length, sym, ap, subst}
-use Rattle.policy_model.specs.Kept.{Kept}
+use Rattle.policy_model.specs.Kept.{IsWholePolicy}
 use Rattle.access_vectors.specs.Vectors.{has}
 use Rattle.flow_query.specs.Hops.{is_allowed}
 use Rattle.flow_query.specs.Paths.{Query}
@@ -8,11 +8,11 @@ use Rattle.flow_query.proofs.finder.Finder.allows.Goals as goal
 
 pub type_at-requires : goal.type_at-requires
 type_at-requires c =
-    node_small c.args.self.now.policy c.args.self.now.contexts c.args.s (subst (λ (q : Query). Kept q.policy) c.self.view_is c.parts-declared.ensures.kept) c.requires.source
+    node_small c.args.self.now.policy c.args.self.now.contexts c.args.s (subst (λ (q : Query). IsWholePolicy q.policy) c.self.view_is c.parts-declared.ensures.kept) c.requires.source
 
 pub type_at-requires-2 : goal.type_at-requires-2
 type_at-requires-2 c =
-    node_small c.args.self.now.policy c.args.self.now.contexts c.args.t (subst (λ (q : Query). Kept q.policy) c.self.view_is c.parts-declared.ensures.kept) c.requires.target
+    node_small c.args.self.now.policy c.args.self.now.contexts c.args.t (subst (λ (q : Query). IsWholePolicy q.policy) c.self.view_is c.parts-declared.ensures.kept) c.requires.target
 
 pub returns : goal.returns
 unfolding is_allowed

@@ -1,5 +1,5 @@
 use Rattle.std.proofs.Common.{◌≡◌, ◌<◌, ◌∙◌, length, None, sym, subst}
-use Rattle.policy_model.specs.Kept.{Kept}
+use Rattle.policy_model.specs.Kept.{IsWholePolicy}
 use Rattle.flow_query.specs.Hops.{hop_between}
 use Rattle.flow_query.specs.Paths.{Query}
 use Rattle.flow_query.proofs.NodeLemmas.{node_declared, node_small}
@@ -8,23 +8,23 @@ use Rattle.flow_query.proofs.finder.Finder.may_lead.Goals as goal
 
 pub meets-requires-clause-source : goal.meets-requires-clause-source
 meets-requires-clause-source c =
-    node_small c.args.self.now.policy c.args.self.now.contexts c.args.from (subst (λ (q : Query). Kept q.policy) c.self.view_is c.parts-declared.ensures.kept) c.requires.from
+    node_small c.args.self.now.policy c.args.self.now.contexts c.args.from (subst (λ (q : Query). IsWholePolicy q.policy) c.self.view_is c.parts-declared.ensures.kept) c.requires.from
 
 pub meets-requires-clause-target : goal.meets-requires-clause-target
 meets-requires-clause-target c =
-    node_small c.args.self.now.policy c.args.self.now.contexts c.args.to (subst (λ (q : Query). Kept q.policy) c.self.view_is c.parts-declared.ensures.kept) c.requires.to
+    node_small c.args.self.now.policy c.args.self.now.contexts c.args.to (subst (λ (q : Query). IsWholePolicy q.policy) c.self.view_is c.parts-declared.ensures.kept) c.requires.to
 
 pub meets-requires-else-meets-clause-source : goal.meets-requires-else-meets-clause-source
 meets-requires-else-meets-clause-source c =
-    node_small c.args.self.now.policy c.args.self.now.contexts c.args.to (subst (λ (q : Query). Kept q.policy) c.self.view_is c.parts-declared.ensures.kept) c.requires.to
+    node_small c.args.self.now.policy c.args.self.now.contexts c.args.to (subst (λ (q : Query). IsWholePolicy q.policy) c.self.view_is c.parts-declared.ensures.kept) c.requires.to
 
 pub meets-requires-else-meets-clause-target : goal.meets-requires-else-meets-clause-target
 meets-requires-else-meets-clause-target c =
-    node_small c.args.self.now.policy c.args.self.now.contexts c.args.from (subst (λ (q : Query). Kept q.policy) c.self.view_is c.parts-declared.ensures.kept) c.requires.from
+    node_small c.args.self.now.policy c.args.self.now.contexts c.args.from (subst (λ (q : Query). IsWholePolicy q.policy) c.self.view_is c.parts-declared.ensures.kept) c.requires.from
 
 pub returns-else-meets : goal.returns-else-meets
 returns-else-meets c = λ unread.
-    let kept = subst (λ (q : Query). Kept q.policy) c.self.view_is c.parts-declared.ensures.kept in
+    let kept = subst (λ (q : Query). IsWholePolicy q.policy) c.self.view_is c.parts-declared.ensures.kept in
     let from : c.args.from < length c.self.inside.policy.now.kinds =
     subst (λ (q : Query). c.args.from < length q.policy.kinds) (sym c.self.view_is) (node_declared c.args.self.now.policy c.args.self.now.contexts c.args.from c.requires.from) in
     let to : c.args.to < length c.self.inside.policy.now.kinds =

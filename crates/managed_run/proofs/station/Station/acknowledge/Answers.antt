@@ -28,14 +28,14 @@ give_admin-requires-clause-history g c =
     let keeper = c.take_admin-keeper.result.keeper in
     let told = c.acknowledge-answer.ensures in
     let lawful = alternates_lawful g.C.Core.plain g.C.Core.formed _ _ keeper.history value.2 in
-    let newest : number_of keeper.phase ≡ c.args.admin.now.view.desk.newest = ap number_of value.3.phase ∙ (sym (reading.newest_is kind_of _ keeper.history lawful) ∙ ap (λ (p : _). p.0) took.learns.1.last) in
+    let newest : number_of keeper.phase ≡ c.args.admin.now.view.admin_view.newest = ap number_of value.3.phase ∙ (sym (reading.newest_is kind_of _ keeper.history lawful) ∙ ap (λ (p : _). p.0) took.learns.1.last) in
     let means = changing.done_means keeper.phase keeper.manager c.count_older-older.result (length (g.C.Core.stale keeper.core)) c.acknowledge-answer.result told.answer in
     let grown = changing.grown_if c.acknowledge-answer.result keeper c.acknowledge-answer.new.self (entry.Ack (number_of keeper.phase)) told.added told.as_before in
-    let desk = c.count_older-older.ensures.desk in
+    let admin_view = c.count_older-older.ensures.admin_view in
     let pending = c.is_pending.ensures ∙ ap is_pending c.phase.ensures in
     let clears = λ (done : is_done c.acknowledge-answer.result ≡ true). changing.cleared_by c.is_pending.result c.count_older-older.result c.take_admin-keeper.new.admin c.count_older-older.new.admin c.count_older-older.ensures.counted (pending ∙ (means done).0) (means done).1 in
-    changing.extends_ack (is_done c.acknowledge-answer.result) false c.count_older-older.new.admin keeper.history c.acknowledge-answer.new.self.history (number_of keeper.phase) grown (desk.seen ∙ took.seen) (took.learns.1.last ∙ (λ i. (sym (desk.current ∙ took.same.number) i, sym (desk.at_version ∙ took.same.version) i)))
-    (newest ∙ sym (desk.current ∙ took.same.number)) (λ done is. clears done ∙ sym desk.current)
+    changing.extends_ack (is_done c.acknowledge-answer.result) false c.count_older-older.new.admin keeper.history c.acknowledge-answer.new.self.history (number_of keeper.phase) grown (admin_view.seen ∙ took.seen) (took.learns.1.last ∙ (λ i. (sym (admin_view.current ∙ took.same.number) i, sym (admin_view.at_version ∙ took.same.version) i)))
+    (newest ∙ sym (admin_view.current ∙ took.same.number)) (λ done is. clears done ∙ sym admin_view.current)
 
 pub give_admin-requires-clause-value : goal.give_admin-requires-clause-value
 give_admin-requires-clause-value g c =
@@ -58,43 +58,43 @@ returns-clause-acknowledged g c =
     let keeper = c.take_admin-keeper.result.keeper in
     let told = c.acknowledge-answer.ensures in
     let lawful = alternates_lawful g.C.Core.plain g.C.Core.formed _ _ keeper.history value.2 in
-    let newest : number_of keeper.phase ≡ c.args.admin.now.view.desk.newest = ap number_of value.3.phase ∙ (sym (reading.newest_is kind_of _ keeper.history lawful) ∙ ap (λ (p : _). p.0) took.learns.1.last) in
+    let newest : number_of keeper.phase ≡ c.args.admin.now.view.admin_view.newest = ap number_of value.3.phase ∙ (sym (reading.newest_is kind_of _ keeper.history lawful) ∙ ap (λ (p : _). p.0) took.learns.1.last) in
     let means = changing.done_means keeper.phase keeper.manager c.count_older-older.result (length (g.C.Core.stale keeper.core)) c.acknowledge-answer.result told.answer in
     let grown = changing.grown_if c.acknowledge-answer.result keeper c.acknowledge-answer.new.self (entry.Ack (number_of keeper.phase)) told.added told.as_before in
-    let desk = c.count_older-older.ensures.desk in
+    let admin_view = c.count_older-older.ensures.admin_view in
     let pending = c.is_pending.ensures ∙ ap is_pending c.phase.ensures in
     let clears = λ (done : is_done c.acknowledge-answer.result ≡ true). changing.cleared_by c.is_pending.result c.count_older-older.result c.take_admin-keeper.new.admin c.count_older-older.new.admin c.count_older-older.ensures.counted (pending ∙ (means done).0) (means done).1 in
     let gave = c.give_admin.ensures in
     let kept = c.entries-kept.ensures in
-    let stale = gave.found ∙ (desk.found ∙ took.found) in
+    let stale = gave.found ∙ (admin_view.found ∙ took.found) in
     let phase = value.3.phase in
     record {
       before = keeper.history;
       found = keeping.found_by g.C.Core.plain (g.D.Decider.decides keeper.decider) g.C.Core.class g.C.Core.pair_of g.C.Core.opening g.C.Core.state g.C.Core.follows g.C.Core.stale c.take_admin-keeper.result.first.value keeper value.3 c.args.admin.now c.give_admin.new.admin took.learns (stale);
       older = c.count_older-older.result;
-      looked = c.count_older-older.new.admin.view.desk.looked;
-      counted = (subst (λ (p : Bool). HasCounted p c.count_older-older.result c.count_older-older.new.admin.view.desk.looked c.args.admin.now c.give_admin.new.admin) (pending ∙ ap is_pending value.3.phase)
+      looked = c.count_older-older.new.admin.view.admin_view.looked;
+      counted = (subst (λ (p : Bool). HasCounted p c.count_older-older.result c.count_older-older.new.admin.view.admin_view.looked c.args.admin.now c.give_admin.new.admin) (pending ∙ ap is_pending value.3.phase)
           (changing.counted_by c.is_pending.result c.count_older-older.result c.args.admin.now c.take_admin-keeper.new.admin c.count_older-older.new.admin c.give_admin.new.admin c.count_older-older.ensures.counted took.shown took.same.number took.same.counted took.same.made took.same.retired
           (ap (λ (v : _). v.trace.earlier) gave.gave)));
       answer_is = told.answer ∙ (λ i. ack_answer (phase i) ((ap (λ (o : _). o.manager) (value.0 ∙ ap (λ (s : _). s.fixed.opening) c.self.view_is)) i) c.count_older-older.result ((sym stale) i));
       seen = gave.seen ∙ (grown ∙ (λ i. keeper.history ++ entries_if (is_done c.acknowledge-answer.result) (entry.Ack (number_of (phase i)))));
-      turn = changing.turned c.args.admin.now c.count_older-older.new.admin c.give_admin.new.admin c.acknowledge-answer.new.self.history (length (g.C.Core.stale c.acknowledge-answer.new.self.core)) _ _ gave.turns (desk.turns ∙ took.turns)
-          (changing.item_added (is_done c.acknowledge-answer.result) c.count_older-older.new.admin.view.seen keeper.history c.acknowledge-answer.new.self.history (entry.Ack (number_of keeper.phase)) (desk.seen ∙ took.seen) grown ∙ (λ i. item_if (is_done c.acknowledge-answer.result) (entry.Ack (number_of (phase i))))) refl gave.found gave.left;
+      turn = changing.turned c.args.admin.now c.count_older-older.new.admin c.give_admin.new.admin c.acknowledge-answer.new.self.history (length (g.C.Core.stale c.acknowledge-answer.new.self.core)) _ _ gave.turns (admin_view.turns ∙ took.turns)
+          (changing.item_added (is_done c.acknowledge-answer.result) c.count_older-older.new.admin.view.seen keeper.history c.acknowledge-answer.new.self.history (entry.Ack (number_of keeper.phase)) (admin_view.seen ∙ took.seen) grown ∙ (λ i. item_if (is_done c.acknowledge-answer.result) (entry.Ack (number_of (phase i))))) refl gave.found gave.left;
       left = gave.left ∙ (keeping.left_is g.C.Core.stale c.acknowledge-answer.result keeper c.acknowledge-answer.new.self told.as_before
           (λ done. kept.stale ∙ keeping.settled_stale (g.D.Decider.decides c.acknowledge-answer.new.self.decider) g.C.Core.class c.acknowledge-answer.new.self.phase (g.C.Core.pair_of (g.C.Core.state c.acknowledge-answer.new.self.core)) (g.C.Core.follows c.acknowledge-answer.new.self.core) (ap is_pending (told.settled done) ∙ changing.rests keeper.phase)) (λ done. (means done).2) ∙ sym stale);
       cleared = λ is done. gave.same.cleared ∙ (clears done ∙ (took.same.number ∙ (sym newest ∙ ap number_of value.3.phase)));
-      given = λ done. subst (λ (n : ℕ). AllFollow n c.give_admin.new.admin.view.desk.given) (ap number_of value.3.phase)
+      given = λ done. subst (λ (n : ℕ). AllFollow n c.give_admin.new.admin.view.admin_view.given) (ap number_of value.3.phase)
           (subst (AllFollow (number_of keeper.phase)) (sym (gave.given ∙ ap maps.entries (told.follows done))) (keeping.all_follow (number_of keeper.phase) (g.C.Core.follows keeper.core)));
-      current = gave.same.number ∙ (desk.current ∙ took.same.number);
-      at_version = gave.same.version ∙ (desk.at_version ∙ took.same.version);
+      current = gave.same.number ∙ (admin_view.current ∙ took.same.number);
+      at_version = gave.same.version ∙ (admin_view.at_version ∙ took.same.version);
     }
 
 pub returns-clause-seats : goal.returns-clause-seats
 returns-clause-seats g c =
     let took = c.take_admin-keeper.ensures in
-    let desk = c.count_older-older.ensures.desk in
+    let admin_view = c.count_older-older.ensures.admin_view in
     let gave = c.give_admin.ensures in
-    record { made = gave.same.made ∙ (desk.made ∙ took.same.made); retired = gave.same.retired ∙ (desk.retired ∙ took.same.retired) }
+    record { made = gave.same.made ∙ (admin_view.made ∙ took.same.made); retired = gave.same.retired ∙ (admin_view.retired ∙ took.same.retired) }
 
 pub returns-clause-done : goal.returns-clause-done
 returns-clause-done g c = changing.settled_of false _ c.acknowledge-answer.result c.args.admin.now c.give_admin.new.admin (returns-clause-acknowledged g c)

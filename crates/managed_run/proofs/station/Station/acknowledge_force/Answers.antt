@@ -18,7 +18,7 @@ give_admin-requires-clause-history g c =
     let keeper = c.take_admin-keeper.result.keeper in
     let told = c.force-answer.ensures in
     let lawful = alternates_lawful g.C.Core.plain g.C.Core.formed _ _ keeper.history value.2 in
-    let newest : number_of keeper.phase ≡ c.args.admin.now.view.desk.newest = ap number_of value.3.phase ∙ (sym (reading.newest_is kind_of _ keeper.history lawful) ∙ ap (λ (p : _). p.0) took.learns.1.last) in
+    let newest : number_of keeper.phase ≡ c.args.admin.now.view.admin_view.newest = ap number_of value.3.phase ∙ (sym (reading.newest_is kind_of _ keeper.history lawful) ∙ ap (λ (p : _). p.0) took.learns.1.last) in
     let means = changing.done_means keeper.phase keeper.manager 0 (length (g.C.Core.stale keeper.core)) c.force-answer.result told.answer in
     let grown = changing.grown_if c.force-answer.result keeper c.force-answer.new.self (entry.Forced (number_of keeper.phase)) told.added told.as_before in
     changing.extends_ack (is_done c.force-answer.result) true c.take_admin-keeper.new.admin keeper.history c.force-answer.new.self.history (number_of keeper.phase) grown (took.seen) (took.learns.1.last ∙ (λ i. (sym took.same.number i, sym took.same.version i)))
@@ -45,7 +45,7 @@ returns-clause-acknowledged g c =
     let keeper = c.take_admin-keeper.result.keeper in
     let told = c.force-answer.ensures in
     let lawful = alternates_lawful g.C.Core.plain g.C.Core.formed _ _ keeper.history value.2 in
-    let newest : number_of keeper.phase ≡ c.args.admin.now.view.desk.newest = ap number_of value.3.phase ∙ (sym (reading.newest_is kind_of _ keeper.history lawful) ∙ ap (λ (p : _). p.0) took.learns.1.last) in
+    let newest : number_of keeper.phase ≡ c.args.admin.now.view.admin_view.newest = ap number_of value.3.phase ∙ (sym (reading.newest_is kind_of _ keeper.history lawful) ∙ ap (λ (p : _). p.0) took.learns.1.last) in
     let means = changing.done_means keeper.phase keeper.manager 0 (length (g.C.Core.stale keeper.core)) c.force-answer.result told.answer in
     let grown = changing.grown_if c.force-answer.result keeper c.force-answer.new.self (entry.Forced (number_of keeper.phase)) told.added told.as_before in
     let gave = c.give_admin.ensures in
@@ -65,7 +65,7 @@ returns-clause-acknowledged g c =
       left = gave.left ∙ (keeping.left_is g.C.Core.stale c.force-answer.result keeper c.force-answer.new.self told.as_before
           (λ done. kept.stale ∙ keeping.settled_stale (g.D.Decider.decides c.force-answer.new.self.decider) g.C.Core.class c.force-answer.new.self.phase (g.C.Core.pair_of (g.C.Core.state c.force-answer.new.self.core)) (g.C.Core.follows c.force-answer.new.self.core) (ap is_pending (told.settled done) ∙ changing.rests keeper.phase)) (λ done. (means done).2) ∙ sym stale);
       cleared = λ is done. absurd (cc);
-      given = λ done. subst (λ (n : ℕ). AllFollow n c.give_admin.new.admin.view.desk.given) (ap number_of value.3.phase)
+      given = λ done. subst (λ (n : ℕ). AllFollow n c.give_admin.new.admin.view.admin_view.given) (ap number_of value.3.phase)
           (subst (AllFollow (number_of keeper.phase)) (sym (gave.given ∙ ap maps.entries (told.follows done))) (keeping.all_follow (number_of keeper.phase) (g.C.Core.follows keeper.core)));
       current = gave.same.number ∙ took.same.number;
       at_version = gave.same.version ∙ took.same.version;

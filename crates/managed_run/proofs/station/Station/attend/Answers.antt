@@ -79,7 +79,7 @@ pub returns-in_err-answer-clause-turn : goal.returns-in_err-answer-clause-turn
 returns-in_err-answer-clause-turn g c =
     let took = c.take-keeper.ensures in
     let same = c.serve-answer.ensures.same.1 in
-    serving.had_turn c.args.seat.now c.take-keeper.new.seat c.serve-answer.new.seat c.give.new.seat c.serve-answer.new.keeper.history (length (g.C.Core.stale c.serve-answer.new.keeper.core)) took.waited took.turns (ap (λ (v : _). v.desk.turns) same) c.give.ensures.turns
+    serving.had_turn c.args.seat.now c.take-keeper.new.seat c.serve-answer.new.seat c.give.new.seat c.serve-answer.new.keeper.history (length (g.C.Core.stale c.serve-answer.new.keeper.core)) took.waited took.turns (ap (λ (v : _). v.admin_view.turns) same) c.give.ensures.turns
     (ap (λ (v : _). v.trace) c.give.ensures.gave)
 
 pub returns-clause-ok : goal.returns-clause-ok
@@ -111,5 +111,5 @@ pub returns-clause-turn : goal.returns-clause-turn
 returns-clause-turn g c =
     let took = c.take-keeper.ensures in
     let same = c.serve-answer.ensures.same.1 in
-    serving.had_turn c.args.seat.now c.take-keeper.new.seat c.serve-answer.new.seat c.give.new.seat c.serve-answer.new.keeper.history (length (g.C.Core.stale c.serve-answer.new.keeper.core)) took.waited took.turns (ap (λ (v : _). v.desk.turns) same) c.give.ensures.turns
+    serving.had_turn c.args.seat.now c.take-keeper.new.seat c.serve-answer.new.seat c.give.new.seat c.serve-answer.new.keeper.history (length (g.C.Core.stale c.serve-answer.new.keeper.core)) took.waited took.turns (ap (λ (v : _). v.admin_view.turns) same) c.give.ensures.turns
     (ap (λ (v : _). v.trace) c.give.ensures.gave)

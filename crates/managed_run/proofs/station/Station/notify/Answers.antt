@@ -20,7 +20,7 @@ notify-said-requires g c =
     let value = took.value in
     let keeper = c.take_admin-keeper.result.keeper in
     let lawful = alternates_lawful g.C.Core.plain g.C.Core.formed _ _ keeper.history value.2 in
-    let newest : number_of keeper.phase ≡ c.args.admin.now.view.desk.newest = ap number_of value.3.phase ∙ (sym (reading.newest_is kind_of _ keeper.history lawful) ∙ ap (λ (p : _). p.0) took.learns.1.last) in
+    let newest : number_of keeper.phase ≡ c.args.admin.now.view.admin_view.newest = ap number_of value.3.phase ∙ (sym (reading.newest_is kind_of _ keeper.history lawful) ∙ ap (λ (p : _). p.0) took.learns.1.last) in
     let within = (c.current-within.ensures.within _ c.requires.gate.1).1 in
     let most = c.most.ensures ∙ ap (λ (s : _). s.fixed.most) c.self.view_is in
     omega (arith, newest, within, most)
@@ -31,7 +31,7 @@ raise-requires-clause-settled g c =
     let value = took.value in
     let keeper = c.take_admin-keeper.result.keeper in
     let lawful = alternates_lawful g.C.Core.plain g.C.Core.formed _ _ keeper.history value.2 in
-    let newest : number_of keeper.phase ≡ c.args.admin.now.view.desk.newest = ap number_of value.3.phase ∙ (sym (reading.newest_is kind_of _ keeper.history lawful) ∙ ap (λ (p : _). p.0) took.learns.1.last) in
+    let newest : number_of keeper.phase ≡ c.args.admin.now.view.admin_view.newest = ap number_of value.3.phase ∙ (sym (reading.newest_is kind_of _ keeper.history lawful) ∙ ap (λ (p : _). p.0) took.learns.1.last) in
     let allowed = changing.allowed_is keeper.phase _ c.args.ver c.most.result c.in-Ok.ensures.allowed in
     ap (settled_in kind_of) took.seen ∙ (reading.settled_is kind_of _ keeper.history lawful ∙ (ap settled_number (sym value.3.phase) ∙ (changing.same_number keeper.phase allowed.0 ∙ (newest ∙ sym took.same.number))))
 
@@ -41,7 +41,7 @@ raise-requires-clause-most g c =
     let value = took.value in
     let keeper = c.take_admin-keeper.result.keeper in
     let lawful = alternates_lawful g.C.Core.plain g.C.Core.formed _ _ keeper.history value.2 in
-    let newest : number_of keeper.phase ≡ c.args.admin.now.view.desk.newest = ap number_of value.3.phase ∙ (sym (reading.newest_is kind_of _ keeper.history lawful) ∙ ap (λ (p : _). p.0) took.learns.1.last) in
+    let newest : number_of keeper.phase ≡ c.args.admin.now.view.admin_view.newest = ap number_of value.3.phase ∙ (sym (reading.newest_is kind_of _ keeper.history lawful) ∙ ap (λ (p : _). p.0) took.learns.1.last) in
     let allowed = changing.allowed_is keeper.phase _ c.args.ver c.most.result c.in-Ok.ensures.allowed in
     let within = (c.current-within.ensures.within _ c.requires.gate.1).1 in
     let most = c.most.ensures in
@@ -54,7 +54,7 @@ raise-requires-clause-version g c =
     let value = took.value in
     let keeper = c.take_admin-keeper.result.keeper in
     let lawful = alternates_lawful g.C.Core.plain g.C.Core.formed _ _ keeper.history value.2 in
-    let newest : number_of keeper.phase ≡ c.args.admin.now.view.desk.newest = ap number_of value.3.phase ∙ (sym (reading.newest_is kind_of _ keeper.history lawful) ∙ ap (λ (p : _). p.0) took.learns.1.last) in
+    let newest : number_of keeper.phase ≡ c.args.admin.now.view.admin_view.newest = ap number_of value.3.phase ∙ (sym (reading.newest_is kind_of _ keeper.history lawful) ∙ ap (λ (p : _). p.0) took.learns.1.last) in
     let allowed = changing.allowed_is keeper.phase _ c.args.ver c.most.result c.in-Ok.ensures.allowed in
     subst (λ (d : _). c.args.ver < (g.D.Decider.decides d).versions) value.1 allowed.1
 
@@ -64,7 +64,7 @@ give_admin-requires-clause-history g c =
     let value = took.value in
     let keeper = c.take_admin-keeper.result.keeper in
     let lawful = alternates_lawful g.C.Core.plain g.C.Core.formed _ _ keeper.history value.2 in
-    let newest : number_of keeper.phase ≡ c.args.admin.now.view.desk.newest = ap number_of value.3.phase ∙ (sym (reading.newest_is kind_of _ keeper.history lawful) ∙ ap (λ (p : _). p.0) took.learns.1.last) in
+    let newest : number_of keeper.phase ≡ c.args.admin.now.view.admin_view.newest = ap number_of value.3.phase ∙ (sym (reading.newest_is kind_of _ keeper.history lawful) ∙ ap (λ (p : _). p.0) took.learns.1.last) in
     let raised = c.raise.ensures in
     changing.extends_notice c.raise.new.admin keeper.history c.notify-said.new.self.history c.in-Ok.number c.args.ver c.in-Ok.ensures.added (raised.seen ∙ took.seen) (c.in-Ok.ensures.number ∙ (ap (λ (n : ℕ). n + 1) (newest ∙ sym took.same.number) ∙ sym raised.number)) (sym raised.version)
 
@@ -88,12 +88,12 @@ returns-in-Ok-clause-ok g c =
     let value = took.value in
     let keeper = c.take_admin-keeper.result.keeper in
     let lawful = alternates_lawful g.C.Core.plain g.C.Core.formed _ _ keeper.history value.2 in
-    let newest : number_of keeper.phase ≡ c.args.admin.now.view.desk.newest = ap number_of value.3.phase ∙ (sym (reading.newest_is kind_of _ keeper.history lawful) ∙ ap (λ (p : _). p.0) took.learns.1.last) in
+    let newest : number_of keeper.phase ≡ c.args.admin.now.view.admin_view.newest = ap number_of value.3.phase ∙ (sym (reading.newest_is kind_of _ keeper.history lawful) ∙ ap (λ (p : _). p.0) took.learns.1.last) in
     let raised = c.raise.ensures in
     let gave = c.give_admin.ensures in
-    let turn = ap (λ (v : _). v.desk.turns) raised.raised ∙ took.turns in
-    let shown = ap (λ (v : _). v.desk.looked) raised.raised ∙ took.shown in
-    let found = ap (λ (v : _). v.desk.found) raised.raised in
+    let turn = ap (λ (v : _). v.admin_view.turns) raised.raised ∙ took.turns in
+    let shown = ap (λ (v : _). v.admin_view.looked) raised.raised ∙ took.shown in
+    let found = ap (λ (v : _). v.admin_view.found) raised.raised in
     let next = c.in-Ok.ensures.number ∙ ap (λ (n : ℕ). n + 1) newest in
     record {
       before = keeper.history;
@@ -113,7 +113,7 @@ returns-in-Err-clause-err g c =
     let value = took.value in
     let keeper = c.take_admin-keeper.result.keeper in
     let lawful = alternates_lawful g.C.Core.plain g.C.Core.formed _ _ keeper.history value.2 in
-    let newest : number_of keeper.phase ≡ c.args.admin.now.view.desk.newest = ap number_of value.3.phase ∙ (sym (reading.newest_is kind_of _ keeper.history lawful) ∙ ap (λ (p : _). p.0) took.learns.1.last) in
+    let newest : number_of keeper.phase ≡ c.args.admin.now.view.admin_view.newest = ap number_of value.3.phase ∙ (sym (reading.newest_is kind_of _ keeper.history lawful) ∙ ap (λ (p : _). p.0) took.learns.1.last) in
     let gave = c.give_admin-in-Err.ensures in
     let same = ap (λ (k : _). k.history) c.in-Err.ensures.as_before in
     let found = keeping.found_by g.C.Core.plain (g.D.Decider.decides keeper.decider) g.C.Core.class g.C.Core.pair_of g.C.Core.opening g.C.Core.state g.C.Core.follows g.C.Core.stale c.take_admin-keeper.result.first.value keeper value.3 c.args.admin.now c.give_admin-in-Err.new.admin took.learns (gave.found ∙ took.found) in

@@ -26,11 +26,12 @@ sources-preserved c =
           (λ t ht. w.change_one.ensures t ht
           ∙ ap (λ (row : Row). changed_if ((i == t)) c.args.change (get_or row.cells t 0)) read
           ∙ ap (λ b. changed_if (b && (i == t)) c.args.change (cell_of rows i t)) (sym has))
-          c.sources.invariant.1)
+          c.sources.invariant.2)
       | else-sources-s-ne0 w ↦
           let none : has_place words i ≡ false = grind (arith, nat_tests) in
-          rw w.self-is (rows_skip (λ s t. has_place words s && (s == t)) c.args.change i _ _ (λ t. and_left _ _ none) c.sources.invariant.1)
+          rw w.self-is (rows_skip (λ s t. has_place words s && (s == t)) c.args.change i _ _ (λ t. and_left _ _ none) c.sources.invariant.2)
     ] in (
       link.within,
+      elim c.if-sources-s-ne0.branch [ then-sources-s-ne0 w ↦ rw w.self-is c.sources.invariant.1 | else-sources-s-ne0 w ↦ rw w.self-is c.sources.invariant.1 ],
       rows_skip_to (λ s t. has_place words s && (s == t)) c.args.change (i + 1) c.from-s-in-sources.result _ _ link.later (λ s t low high. and_left _ _ (link.none s low high)) now,
     )

@@ -2,7 +2,7 @@ use Rattle.std.proofs.Common.{◌≡◌, ◌+◌, ◌<◌, ◌≤◌, ◌∙◌,
 use Rattle.std.proofs.lemmas.List.{length_push}
 use Rattle.policy_model.specs.declared.policy.PolicyParts.{PolicyParts}
 use Rattle.policy_versions.specs.Changes.{AreRules}
-use Rattle.policy_versions.proofs.TableLemmas.{versions_few, version_rules, rules_at-read, told_below, table_told}
+use Rattle.policy_versions.proofs.TableLemmas.{blank_on, versions_few, version_rules, rules_at-read, told_below, table_told}
 use Rattle.policy_versions.proofs.table.Table.compile.Goals as goal
 
 pub draw_version-requires : goal.draw_version-requires
@@ -10,7 +10,7 @@ draw_version-requires c =
     let few : length c.args.policy.now.versions ≤ 64 = versions_few c.args.policy.now c.parts.ensures.kept in
     let same : length c.as_slice-version-items.result.now ≡ length c.args.policy.now.versions = ap length c.as_slice-version-items.ensures ∙ ap (λ (p : PolicyParts). length p.versions) c.parts.ensures.parts in
     let rows = c.versions.invariant.0 in
-    omega arith
+    record { few = omega arith; blank = c.versions.invariant.3 }
 
 pub versions-preserved : goal.versions-preserved
 versions-preserved c =
@@ -28,6 +28,7 @@ versions-preserved c =
       length_push c.versions.firsts.items c.in_ok-before.before ∙ ap (λ n. n + 1) size,
       told_below c.args.content policy c.versions.rows.items c.draw_version.new.rows.items c.versions.firsts.items i c.in_ok-before.before c.requires.few size c.in_ok-before.ensures.keeps
           (rw (rules_at-read policy i c.version-item.result within read) told) c.versions.invariant.2,
+      blank_on _ _ c.in_ok-before.ensures.keeps c.versions.invariant.3,
     )
 
 pub returns : goal.returns

@@ -5,7 +5,7 @@ use Rattle.access_vectors.specs.Stale.{slot_place}
 use Rattle.slot_tables.specs.Slots.{map_of}
 use Rattle.retained_rights.specs.Claims.{Claim}
 use Rattle.retained_rights.specs.Rights.{Fit}
-use Rattle.port_store.specs.Stores.{Shown}
+use Rattle.port_store.specs.Stores.{StoreView}
 use Rattle.port_store.specs.Laws.{safe_is}
 use Rattle.port_store.proofs.LabelLemmas.{known_label}
 use Rattle.port_calls.specs.States.{Bound}
@@ -20,20 +20,20 @@ vector_at-vector-requires-clause-target g c =
 
 pub add-requires-clause-fit : goal.add-requires-clause-fit
 add-requires-clause-fit g c =
-    let shown : Shown = record { opening = c.self.inside.opening; ports = map_of c.self.inside.table.items; rights = c.self.inside.grants } in
+    let shown : StoreView = record { opening = c.self.inside.opening; ports = map_of c.self.inside.table.items; rights = c.self.inside.grants } in
     subst (λ (d : Decisions). Fit d c.self.inside.grants) (sym c.vector_at-vector.ensures.decides)
     (safe_is (g.A.Asker.decides c.args.asker.now) shown (rw (← c.self.view_is) at c.requires.safe)).rights
 
 pub add-requires-clause-target : goal.add-requires-clause-target
 add-requires-clause-target g c =
-    let shown : Shown = record { opening = c.self.inside.opening; ports = map_of c.self.inside.table.items; rights = c.self.inside.grants } in
+    let shown : StoreView = record { opening = c.self.inside.opening; ports = map_of c.self.inside.table.items; rights = c.self.inside.grants } in
     let safe = safe_is (g.A.Asker.decides c.args.asker.now) shown (rw (← c.self.view_is) at c.requires.safe) in
     subst (λ (d : Decisions). IsTrue (d.known c.args.filling.t)) (sym c.vector_at-vector.ensures.decides)
     (subst (λ (sid : ℕ). IsTrue ((g.A.Asker.decides c.args.asker.now).known sid)) (rw (← c.self.view_is) at c.requires.target) (known_label (g.A.Asker.decides c.args.asker.now) shown.opening c.args.filling.port safe.known))
 
 pub invariant_of-self-2 : goal.invariant_of-self-2
 invariant_of-self-2 g c =
-    let shown : Shown = record { opening = c.self.inside.opening; ports = map_of c.self.inside.table.items; rights = c.self.inside.grants } in
+    let shown : StoreView = record { opening = c.self.inside.opening; ports = map_of c.self.inside.table.items; rights = c.self.inside.grants } in
     let claim : Claim = record { object = c.args.filling.port; mode = c.args.filling.mode; s = c.args.filling.s; t = c.args.filling.t } in
     let ports = map_of c.put.new.table.items in
     let bound : Bound = record { owner = c.args.client; messages = [] } in
@@ -46,7 +46,7 @@ invariant_of-self-2 g c =
 
 pub returns-clause-state : goal.returns-clause-state
 returns-clause-state g c =
-    let shown : Shown = record { opening = c.self.inside.opening; ports = map_of c.self.inside.table.items; rights = c.self.inside.grants } in
+    let shown : StoreView = record { opening = c.self.inside.opening; ports = map_of c.self.inside.table.items; rights = c.self.inside.grants } in
     let claim : Claim = record { object = c.args.filling.port; mode = c.args.filling.mode; s = c.args.filling.s; t = c.args.filling.t } in
     let ports = map_of c.put.new.table.items in
     let bound : Bound = record { owner = c.args.client; messages = [] } in
@@ -55,7 +55,7 @@ returns-clause-state g c =
 
 pub returns-clause-safe : goal.returns-clause-safe
 returns-clause-safe g c =
-    let shown : Shown = record { opening = c.self.inside.opening; ports = map_of c.self.inside.table.items; rights = c.self.inside.grants } in
+    let shown : StoreView = record { opening = c.self.inside.opening; ports = map_of c.self.inside.table.items; rights = c.self.inside.grants } in
     let claim : Claim = record { object = c.args.filling.port; mode = c.args.filling.mode; s = c.args.filling.s; t = c.args.filling.t } in
     let ports = map_of c.put.new.table.items in
     let bound : Bound = record { owner = c.args.client; messages = [] } in

@@ -4,7 +4,7 @@ use Rattle.slot_tables.specs.Slots.{map_of}
 use Rattle.retained_rights.specs.Claims.{claims_of}
 use Rattle.retained_rights.proofs.MapLemmas.{mapped-remove}
 use Rattle.retained_rights.proofs.StepLemmas.{step_freed}
-use Rattle.process_store.specs.Stores.{Shown, slots_of}
+use Rattle.process_store.specs.Stores.{StoreView, slots_of}
 use Rattle.process_store.specs.Laws.{safe_is}
 use Rattle.process_store.proofs.Linking.{safe_changed, state_changed}
 use Rattle.process_store.proofs.processes.Processes.free.Goals as goal
@@ -19,12 +19,12 @@ invariant_of-self g c =
 
 pub returns-clause-state : goal.returns-clause-state
 returns-clause-state g c =
-    let shown : Shown = record { opening = c.self.inside.opening; processes = map_of c.self.inside.table; rights = c.self.inside.grants } in
+    let shown : StoreView = record { opening = c.self.inside.opening; processes = map_of c.self.inside.table; rights = c.self.inside.grants } in
     rw (← c.self.view_is) (state_changed shown c.drop_slot-held.new.self _ (ap slots_of c.drop_slot-held.ensures.claims ∙ mapped-remove _ (claims_of shown.rights) _))
 
 pub returns-clause-safe : goal.returns-clause-safe
 returns-clause-safe g c = λ d kept.
-    let shown : Shown = record { opening = c.self.inside.opening; processes = map_of c.self.inside.table; rights = c.self.inside.grants } in
+    let shown : StoreView = record { opening = c.self.inside.opening; processes = map_of c.self.inside.table; rights = c.self.inside.grants } in
     let safe = rw (← c.self.view_is) at kept in
     let drop = c.drop_slot-held.ensures in
     safe_changed d shown c.drop_slot-held.new.self safe

@@ -1,0 +1,111 @@
+"""Compiling a policy with `neverallow` lines, beside `secilc` and `checkpolicy`, where the machine has them.
+
+The policy has 128 types, 1,024 lines that allow reading and 1,024 `neverallow` lines that forbid writing, and is written in the language of each program.
+`flaskd serial` reads and compiles it below a session of no lines; the others write the binary policy to a file. A figure is processor time of a whole
+command. The programs do not do the same: the others write a policy for a kernel, which has more in it, and `flaskd` makes rows for all pairs of types.
+"""
+
+import os
+import pathlib
+import random
+import shutil
+import subprocess
+import sys
+import tempfile
+
+import timing
+
+RUNS = 11
+CRATES = ""
+SESSION = "session\nclient alice u:r:k0\nrun\n"
+MLS_FREE = """(handleunknown allow)
+(mls false)
+(policycap open_perms)
+(class file (read write))
+(classorder (file))
+(sid kernel)
+(sidorder (kernel))
+(user u)
+(role r)
+(role object_r)
+(sensitivity s0)
+(sensitivityorder (s0))
+(userrole u r)
+(userrole u object_r)
+(userlevel u (s0))
+(userrange u ((s0) (s0)))
+(sidcontext kernel (u r k0 ((s0) (s0))))
+(roletype r k0)
+"""
+BASE = """class file
+sid kernel
+class file { read write }
+"""
+TAIL = """role r;
+role r types k0;
+user u roles r;
+sid kernel u:r:k0
+"""
+
+
+def drawn():
+    """The types forbidden to write, and the types that all may read, of each line."""
+    draw = random.Random(7)
+    return [draw.randrange(128) for _ in range(1024)], [draw.randrange(128) for _ in range(1024)]
+
+
+def own_text(nevers, allows):
+    lines = ["policy 1", "context u:r:k0"] + [f"type k{kind}" for kind in range(1, 128)]
+    lines += [f"neverallow k{kind} * file write" for kind in nevers] + ["version"]
+    lines += [f"allow * k{kind} file read" for kind in allows]
+    return "\n".join(lines) + "\n" + SESSION
+
+
+def cil_text(nevers, allows):
+    lines = [f"(type k{kind})" for kind in range(128)]
+    lines += ["(typeattribute every)", "(typeattributeset every (all))"]
+    lines += [f"(neverallow k{kind} every (file (write)))" for kind in nevers]
+    lines += [f"(allow every k{kind} (file (read)))" for kind in allows]
+    return MLS_FREE + "\n".join(lines) + "\n"
+
+
+def policy_text(nevers, allows):
+    lines = ["attribute all;"] + [f"type k{kind}, all;" for kind in range(128)]
+    lines += [f"neverallow k{kind} all:file write;" for kind in nevers]
+    lines += [f"allow all k{kind}:file read;" for kind in allows]
+    return BASE + "\n".join(lines) + "\n" + TAIL
+
+
+def took(words, path):
+    """Nanoseconds of a processor for one run of a command that reads a file as its standard input."""
+    with open(path, "rb") as source:
+        child = subprocess.Popen([str(word) for word in words], stdin=source, stdout=subprocess.DEVNULL, stderr=subprocess.PIPE)
+        said = child.stderr.read()
+        child.stderr.close()
+        _, status, usage = os.wait4(child.pid, 0)
+    child.returncode = os.waitstatus_to_exitcode(status)
+    if child.returncode != 0:
+        sys.exit(f"bench: {words[0]} ended with {child.returncode}: {said.decode(errors='replace')}")
+    return (usage.ru_utime + usage.ru_stime) * 1e9
+
+
+def measure(programs, asked):
+    flaskd = asked.program.resolve()
+    timing.head("a policy of 1,024 `allow` and 1,024 `neverallow` lines, compiled", "proved, best / median, ms", "the peer", "ratio of medians")
+    with tempfile.TemporaryDirectory() as folder:
+        place, lines = pathlib.Path(folder), drawn()
+        own, cil, conf = place / "own", place / "peer.cil", place / "peer.conf"
+        own.write_text(own_text(*lines))
+        cil.write_text(cil_text(*lines))
+        conf.write_text(policy_text(*lines))
+        peers = {
+            "secilc": (["secilc", "-o", place / "binary", "-f", place / "contexts", cil], cil),
+            "checkpolicy": (["checkpolicy", "-o", place / "binary", conf], conf),
+        }
+        for name, (words, path) in peers.items():
+            if shutil.which(name) is None:
+                print(f"bench: there is no {name} on this machine", file=sys.stderr)
+                continue
+            figures = [(took([flaskd, "serial"], own), took(words, path)) for _ in range(asked.runs)]
+            proved, peer = [one[0] for one in figures], [one[1] for one in figures]
+            timing.row(f"beside `{name}`", timing.shown(proved, 1_000_000, 2), timing.shown(peer, 1_000_000, 2), timing.ratio(proved, peer))

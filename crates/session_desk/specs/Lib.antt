@@ -1,4 +1,0 @@
-pub mod One
-pub mod Days
-pub mod Desks
-pub mod Standings

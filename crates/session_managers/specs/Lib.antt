@@ -1,0 +1,4 @@
+pub mod One
+pub mod SessionStates
+pub mod SessionViews
+pub mod Standings

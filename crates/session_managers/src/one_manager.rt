@@ -1,0 +1,215 @@
+//! The three managers of a session as one type.
+
+ghost use Rattle.std.specs.Prelude.{◌≡◌, ◌<◌, IfOk, OnErr};
+ghost use Rattle.managed.specs.Seen.{IsServed};
+ghost use Rattle.session_managers.specs.One;
+
+use crate::acting::{Act, Call, ClientAct, Reply};
+use access_vectors::{Asked, Decider, Phase};
+use file_calls::FileReply;
+use file_manager::FileCore;
+use flask_sid::Memory;
+use managed::{Managed, Plain, Serves};
+use manager_history::{Ack, Answer, NotifyFault};
+use port_calls::PortReply;
+use port_manager::PortCore;
+use process_calls::ProcessReply;
+use process_manager::ProcessCore;
+use retained_rights::{AllBits, EachBits};
+use std::alloc::Global;
+use std::sync::Wait;
+
+/// One of the managers of a session on one thread.
+#[derive(Drop)]
+pub enum OneManager<'d, D: Decider> {
+    File(Plain<'d, FileCore<EachBits>, D>),
+    Process(Plain<'d, ProcessCore<AllBits>, D>),
+    Port(Plain<'d, PortCore<AllBits>, D>),
+}
+
+impl<'d, D: Decider> OneManager<'d, D> {
+    /// Where the manager's change of policy stands.
+    pub fn phase(&self) -> Phase
+        ensures { result ≡ One.phase (One.place_of self.now) }
+    {
+        match self {
+            OneManager::File(files) => files.phase(),
+            OneManager::Process(processes) => processes.phase(),
+            OneManager::Port(ports) => ports.phase(),
+        }
+    }
+
+    /// The policy number under which a client acts.
+    pub fn acting(&self, client: u8) -> u32
+        requires { client < 64 }
+        ensures { result ≡ One.acting (One.place_of self.now) client }
+    {
+        match self {
+            OneManager::File(files) => files.acting(client),
+            OneManager::Process(processes) => processes.acting(client),
+            OneManager::Port(ports) => ports.acting(client),
+        }
+    }
+
+    /// What the newest call asked.
+    pub fn last_asked(&self) -> &[Asked]
+        ensures { result.now ≡ One.last_asked self.now }
+    {
+        match self {
+            OneManager::File(files) => files.last_asked(),
+            OneManager::Process(processes) => processes.last_asked(),
+            OneManager::Port(ports) => ports.last_asked(),
+        }
+    }
+
+    /// Does a client's call, which is of this manager, under its held pass or else a pass of the newest number.
+    fn call(
+        &mut self,
+        alloc: Global,
+        client: u8,
+        mark: u32,
+        call: Call,
+    ) -> Result<Answer<Reply>, Memory>
+        requires may { One.MayCall (D.decides (One.decider_of self.old)) (One.place_of self.old) client call }
+        requires client { client < 64 }
+        ensures done { IfOk result (One.HasCalled D.decides client mark self.old call self.new) }
+        ensures as_before { OnErr result (self.new ≡ self.old) }
+        ensures served { IsServed (One.seen D.decides self.old) (One.seen D.decides self.new) }
+    {
+        match (self, call) {
+            (OneManager::File(files), Call::File(call)) => {
+                Ok(of_files(files.call(alloc, client, mark, call)?))
+            }
+            (OneManager::Process(processes), Call::Process(call)) => {
+                Ok(of_processes(processes.call(alloc, client, mark, call)?))
+            }
+            (OneManager::Port(ports), Call::Port(call)) => {
+                Ok(of_ports(ports.call(alloc, client, mark, call)?))
+            }
+            _ => unreachable!(),
+        }
+    }
+
+    /// A client takes a pass of the newest number, and holds it. One that holds a pass keeps that.
+    fn begin(&mut self, client: u8)
+        requires { client < 64 }
+        ensures { One.HasPassed D.decides self.old self.new (One.after_begin client (One.place_of self.old)) }
+    {
+        match self {
+            OneManager::File(files) => files.begin(client),
+            OneManager::Process(processes) => processes.begin(client),
+            OneManager::Port(ports) => ports.begin(client),
+        }
+    }
+
+    /// A client gives its held pass back, if it holds one.
+    fn end(&mut self, client: u8)
+        requires { client < 64 }
+        ensures { One.HasPassed D.decides self.old self.new (One.after_end client (One.place_of self.old)) }
+    {
+        match self {
+            OneManager::File(files) => files.end(client),
+            OneManager::Process(processes) => processes.end(client),
+            OneManager::Port(ports) => ports.end(client),
+        }
+    }
+}
+
+/// An answer of the manager of files as one of the three managers'.
+fn of_files(answer: Answer<FileReply>) -> Answer<Reply>
+    ensures { result ≡ One.answer_of Reply.File answer }
+{
+    match answer {
+        Answer::Did(reply) => Answer::Did(Reply::File(reply)),
+        Answer::Aborted => Answer::Aborted,
+    }
+}
+
+fn of_processes(answer: Answer<ProcessReply>) -> Answer<Reply>
+    ensures { result ≡ One.answer_of Reply.Process answer }
+{
+    match answer {
+        Answer::Did(reply) => Answer::Did(Reply::Process(reply)),
+        Answer::Aborted => Answer::Aborted,
+    }
+}
+
+fn of_ports(answer: Answer<PortReply>) -> Answer<Reply>
+    ensures { result ≡ One.answer_of Reply.Port answer }
+{
+    match answer {
+        Answer::Did(reply) => Answer::Did(Reply::Port(reply)),
+        Answer::Aborted => Answer::Aborted,
+    }
+}
+
+impl<'d, D: Decider> Managed for OneManager<'d, D> {
+    ghost use Rattle.session_managers.specs.One.{seen, IsSame, same_reflexive, same_transitive};
+
+    ghost seen = { seen D.decides };
+
+    ghost same = { IsSame };
+
+    fn notify<R: Wait>(&mut self, rt: &R, alloc: Global, ver: u8) -> Result<u32, NotifyFault> {
+        match self {
+            OneManager::File(files) => Managed::notify(files, rt, alloc, ver),
+            OneManager::Process(processes) => Managed::notify(processes, rt, alloc, ver),
+            OneManager::Port(ports) => Managed::notify(ports, rt, alloc, ver),
+        }
+    }
+
+    fn update<R: Wait>(&mut self, rt: &R, k: u64) -> u64 {
+        match self {
+            OneManager::File(files) => Managed::update(files, rt, k),
+            OneManager::Process(processes) => Managed::update(processes, rt, k),
+            OneManager::Port(ports) => Managed::update(ports, rt, k),
+        }
+    }
+
+    fn acknowledge<R: Wait>(&mut self, rt: &R) -> Ack {
+        match self {
+            OneManager::File(files) => Managed::acknowledge(files, rt),
+            OneManager::Process(processes) => Managed::acknowledge(processes, rt),
+            OneManager::Port(ports) => Managed::acknowledge(ports, rt),
+        }
+    }
+
+    fn force<R: Wait>(&mut self, rt: &R) -> Ack {
+        match self {
+            OneManager::File(files) => Managed::force(files, rt),
+            OneManager::Process(processes) => Managed::force(processes, rt),
+            OneManager::Port(ports) => Managed::force(ports, rt),
+        }
+    }
+
+    ghost reflexive = { same_reflexive };
+
+    ghost transitive = { same_transitive };
+}
+
+impl<'d, D: Decider> Serves for OneManager<'d, D> {
+    ghost use Rattle.session_managers.specs.One.{May, Does};
+
+    type Act = ClientAct;
+
+    type Outcome = Result<Option<Answer<Reply>>, Memory>;
+
+    ghost may = { May D.decides };
+
+    ghost does = { Does D.decides };
+
+    fn serve(&mut self, alloc: Global, act: ClientAct) -> Result<Option<Answer<Reply>>, Memory> {
+        let ClientAct { client, act } = act;
+        match act {
+            Act::Call { mark, call } => Ok(Some(self.call(alloc, client, mark, call)?)),
+            Act::Begin => {
+                self.begin(client);
+                Ok(None)
+            }
+            Act::End => {
+                self.end(client);
+                Ok(None)
+            }
+        }
+    }
+}
