@@ -22,6 +22,7 @@ fn main(rt: HostRuntime) -> io::Result<ExitCode> {
     if status != Status::Ok {
         // The exit status tells the end also where there is no memory for its text.
         if let Ok(text) = status_text(rt.alloc(), &status) {
+            let text = str::from_utf8(text.as_bytes()).unwrap_or("");
             eprintln!(rt; "{text}")?;
         }
     }

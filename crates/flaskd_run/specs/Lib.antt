@@ -8,3 +8,4 @@ pub mod Threads
 pub mod Learning
 pub mod Tasks
 pub mod Top
+pub mod Said
