@@ -11,7 +11,7 @@ ghost use Rattle.std.specs.Prelude.{List};
 ghost use Rattle.managed_run.specs.Calls.{HasAnswered, HasAddedNone, IsSound, KeepsPass};
 
 use crate::asking::{Request, serve};
-use crate::docket::{CoreDocket, Docket};
+use crate::docket::CoreDocket;
 use crate::station::Station;
 use access_vectors::{Decider, Questions};
 use epoch_gate::Seat;
@@ -74,18 +74,18 @@ impl<'d, C: Core + Drop, D: Decider> Station<'d, C, D> {
         let Some((number, _)) = seat.pass() else {
             unreachable!()
         };
-        let Docket { mut keeper, first } = self.gate.take(rt, seat);
-        let _found = keeper.entries();
+        let mut docket = self.gate.take(rt, seat);
+        let _found = docket.kept.keeper.entries();
         let request = Request {
             caller,
             mark,
             call,
             number,
         };
-        let answer = serve(&self.gate, seat, &mut keeper, alloc, request);
-        let history = keeper.entries();
+        let answer = serve(&self.gate, seat, &mut docket.kept.keeper, alloc, request);
+        let history = docket.kept.keeper.entries();
         let copy = asked_last::<C>(alloc, history, copies);
-        self.gate.give(seat, Docket { keeper, first });
+        self.gate.give(seat, docket);
         Ok((answer?, copy))
     }
 

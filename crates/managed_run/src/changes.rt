@@ -10,7 +10,7 @@ ghost use Rattle.managed_run.specs.Calls.{IsSound};
 ghost use Rattle.managed_run.specs.Changes.{HasNotified, HasTurnedNone, HasAcknowledged, IsSettled, IsCurrent, StaysClear, KeepsSeats};
 ghost use Rattle.managed_run.specs.Changes;
 
-use crate::docket::{CoreDocket, Docket};
+use crate::docket::CoreDocket;
 use crate::station::Station;
 use access_vectors::{Decider, NotifyFault, Phase, Steps};
 use epoch_gate::{Admin, Gate};
@@ -60,17 +60,17 @@ impl<'d, C: Core + Drop, D: Decider> Station<'d, C, D> {
         ensures gate { IsOfGate self.now admin.new }
     {
         let _within = admin.current();
-        let Docket { mut keeper, first } = self.gate.take_admin(rt, admin);
-        let said = keeper.notify(alloc, ver, self.gate.most());
-        let _kept = keeper.entries();
+        let mut docket = self.gate.take_admin(rt, admin);
+        let said = docket.kept.keeper.notify(alloc, ver, self.gate.most());
+        let _kept = docket.kept.keeper.entries();
         match said {
             Ok(number) => {
                 self.gate.raise(admin, ver);
-                self.gate.give_admin(admin, Docket { keeper, first });
+                self.gate.give_admin(admin, docket);
                 Ok(number)
             }
             Err(fault) => {
-                self.gate.give_admin(admin, Docket { keeper, first });
+                self.gate.give_admin(admin, docket);
                 Err(fault)
             }
         }
@@ -98,10 +98,10 @@ impl<'d, C: Core + Drop, D: Decider> Station<'d, C, D> {
         ensures idle { IsIdle admin.new }
         ensures gate { IsOfGate self.now admin.new }
     {
-        let Docket { mut keeper, first } = self.gate.take_admin(rt, admin);
-        let left = keeper.update(k, steps);
-        let _kept = keeper.entries();
-        self.gate.give_admin(admin, Docket { keeper, first });
+        let mut docket = self.gate.take_admin(rt, admin);
+        let left = docket.kept.keeper.update(k, steps);
+        let _kept = docket.kept.keeper.entries();
+        self.gate.give_admin(admin, docket);
         left
     }
 
@@ -119,12 +119,12 @@ impl<'d, C: Core + Drop, D: Decider> Station<'d, C, D> {
         ensures idle { IsIdle admin.new }
         ensures gate { IsOfGate self.now admin.new }
     {
-        let Docket { mut keeper, first } = self.gate.take_admin(rt, admin);
-        let _found = keeper.entries();
-        let older = count_older(&self.gate, admin, keeper.phase().is_pending());
-        let answer = keeper.acknowledge(older);
-        let _kept = keeper.entries();
-        self.gate.give_admin(admin, Docket { keeper, first });
+        let mut docket = self.gate.take_admin(rt, admin);
+        let _found = docket.kept.keeper.entries();
+        let older = count_older(&self.gate, admin, docket.kept.keeper.phase().is_pending());
+        let answer = docket.kept.keeper.acknowledge(older);
+        let _kept = docket.kept.keeper.entries();
+        self.gate.give_admin(admin, docket);
         answer
     }
 
@@ -146,11 +146,11 @@ impl<'d, C: Core + Drop, D: Decider> Station<'d, C, D> {
         ensures idle { IsIdle admin.new }
         ensures gate { IsOfGate self.now admin.new }
     {
-        let Docket { mut keeper, first } = self.gate.take_admin(rt, admin);
-        let _found = keeper.entries();
-        let answer = keeper.force();
-        let _kept = keeper.entries();
-        self.gate.give_admin(admin, Docket { keeper, first });
+        let mut docket = self.gate.take_admin(rt, admin);
+        let _found = docket.kept.keeper.entries();
+        let answer = docket.kept.keeper.force();
+        let _kept = docket.kept.keeper.entries();
+        self.gate.give_admin(admin, docket);
         answer
     }
 }

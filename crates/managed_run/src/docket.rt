@@ -18,11 +18,16 @@ pub struct Docket<K, S> {
     pub first: S,
 }
 
-/// A keeper, and its core as it was at the opening.
-pub type CoreDocket<'d, C, D> = Docket<Keeper<'d, C, D>, Snapshot<C>>;
+/// A keeper, and its core as it was at the opening, in a box: so a turn moves two words. It has the decider beside them, which shows how long what
+/// is in the box lives.
+#[derive(Drop)]
+pub struct CoreDocket<'d, C: Core, D: Decider> {
+    pub kept: Box<Docket<Keeper<'d, C, D>, Snapshot<C>>>,
+    pub decider: &'d D,
+}
 
 /// The history is the keeper's, which is lawful from the opening under the decider.
-impl<'d, C: Core + Drop, D: Decider> Journal<D> for Docket<Keeper<'d, C, D>, Snapshot<C>> {
+impl<'d, C: Core + Drop, D: Decider> Journal<D> for CoreDocket<'d, C, D> {
     ghost use Rattle.std.proofs.Common.{sym, ap, subst, ◌∙◌};
     ghost use Rattle.access_vectors.specs.Stale.{AreNamed, stale_slots};
     ghost use Rattle.access_vectors.specs.declared.phase.Phase.{Phase};
@@ -36,22 +41,22 @@ impl<'d, C: Core + Drop, D: Decider> Journal<D> for Docket<Keeper<'d, C, D>, Sna
     type Opening = Opened<C>;
 
     ghost means = { record {
-      history = λ docket. docket.keeper.history;
+      history = λ docket. docket.kept.value.keeper.history;
       kind = kind_of;
-      opening = λ docket. record { core = docket.first.value; manager = docket.keeper.manager };
-      decider = λ docket. docket.keeper.decider;
+      opening = λ docket. record { core = docket.kept.value.first.value; manager = docket.kept.value.keeper.manager };
+      decider = λ docket. docket.kept.value.keeper.decider;
       promise = λ opening decider log. IsLawful C.plain C.formed (D.decides decider) (start_of (C.opening opening.core)) log;
-      keeps = λ docket. IsFrom C.plain (D.decides docket.keeper.decider) C.class C.pair_of C.opening C.state C.follows C.stale docket.first.value docket.keeper;
+      keeps = λ docket. IsFrom C.plain (D.decides docket.kept.value.keeper.decider) C.class C.pair_of C.opening C.state C.follows C.stale docket.kept.value.first.value docket.kept.value.keeper;
       class = C.class;
-      pair_of = λ docket. C.pair_of (C.state docket.keeper.core);
-      follows = λ docket. C.follows docket.keeper.core;
-      stale = λ docket. C.stale docket.keeper.core;
+      pair_of = λ docket. C.pair_of (C.state docket.kept.value.keeper.core);
+      follows = λ docket. C.follows docket.kept.value.keeper.core;
+      stale = λ docket. C.stale docket.kept.value.keeper.core;
     } };
 
     ghost alternates = { λ opening decider log promised. alternates_lawful C.plain C.formed (D.decides decider) (C.opening opening.core) log promised };
 
-    ghost are_named = { λ docket kept. subst (λ (phase : Phase). AreNamed phase (C.follows docket.keeper.core)) kept.phase kept.named };
+    ghost are_named = { λ docket kept. subst (λ (phase : Phase). AreNamed phase (C.follows docket.kept.value.keeper.core)) kept.phase kept.named };
 
     ghost are_stale = { λ docket kept. kept.stale_is
-        ∙ ap (λ (phase : Phase). stale_slots (D.decides docket.keeper.decider) C.class phase (C.pair_of (C.state docket.keeper.core)) (C.follows docket.keeper.core)) kept.phase };
+        ∙ ap (λ (phase : Phase). stale_slots (D.decides docket.kept.value.keeper.decider) C.class phase (C.pair_of (C.state docket.kept.value.keeper.core)) (C.follows docket.kept.value.keeper.core)) kept.phase };
 }

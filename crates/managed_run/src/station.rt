@@ -6,6 +6,7 @@ ghost use Rattle.epoch_gate.specs.Seats.{IsOfGate, key_of};
 ghost use Rattle.epoch_gate.specs.Known.{decider_of, seats_allowed, HasPass, HasNoPass, IsIdle, quota_left, keys_served, seats_made, seats_retired, vector_for};
 ghost use Rattle.epoch_gate.specs.Calls.{HasEntered, HasLeft, IsNew, HasMade, HasRetired, IsFirst};
 ghost use Rattle.epoch_gate.specs.Opening.{refusal, IsRefused};
+ghost use Rattle.epoch_gate.specs.Opening;
 ghost use Rattle.avc_rows.specs.Checks.{IsSame, IsShown};
 ghost use Rattle.access_vectors.specs.Stale.{AreNamed};
 ghost use Rattle.managed_run.specs.Kinds.{kind_of, phase_of};
@@ -38,6 +39,28 @@ impl<'d, C: Core + Drop, D: Decider> Model for Station<'d, C, D> {
     ghost view = { λ station. station.gate };
 }
 
+fn is_outside(n: u32, most: u32) -> bool
+    ensures { result ≡ Opening.is_outside n most }
+{
+    n == 0 || n > most
+}
+
+/// Why there is no gate of these numbers, where there is a reason.
+fn refused(seats: u8, quota: u32, most: u32) -> Option<GateFault>
+    ensures { result ≡ refusal seats quota most }
+{
+    if is_outside(u32::from(seats), 64) {
+        return Some(GateFault::Seats(seats));
+    }
+    if is_outside(quota, 536_870_912) {
+        return Some(GateFault::Quota(quota));
+    }
+    if is_outside(most, 1_048_575) {
+        return Some(GateFault::Most(most));
+    }
+    None
+}
+
 impl<'d, C: Core + Drop, D: Decider> Station<'d, C, D> {
     /// A station over a keeper that did nothing yet, with its administrator. After a refusal the keeper is given up.
     pub fn new(
@@ -63,7 +86,10 @@ impl<'d, C: Core + Drop, D: Decider> Station<'d, C, D> {
     {
         let _lawful = keeper.entries();
         let first = Snapshot::of(keeper.core());
-        let docket = Docket { keeper, first };
+        let Ok(kept) = Box::new(alloc, Docket { keeper, first }) else {
+            return Err(refused(seats, quota, most).unwrap_or(GateFault::Memory));
+        };
+        let docket = CoreDocket { kept, decider };
         let (gate, admin) = Gate::new(alloc, docket, decider, seats, quota, most)?;
         Ok((Station { gate }, admin))
     }
@@ -158,7 +184,8 @@ impl<'d, C: Core + Drop, D: Decider> Station<'d, C, D> {
         ensures named { AreNamed result.phase (C.follows result.core) }
         ensures sound { IsSound C.plain C.formed C.denial_of (D.decides (decider_of self.entry)) (C.opening self.entry.fixed.opening.core) result.history }
     {
-        let Docket { keeper, first: _ } = self.gate.close(admin);
+        let CoreDocket { kept, decider: _ } = self.gate.close(admin);
+        let Docket { keeper, first: _ } = Box::into_inner(kept);
         let _kept = keeper.entries();
         keeper
     }

@@ -10,7 +10,7 @@ use Rattle.manager_history.specs.declared.core_trait.Core as core
 use Rattle.epoch_gate.specs.contracts.seat.Seat as seat
 use Rattle.epoch_gate.specs.contracts.gate.Gate as gate
 use Rattle.epoch_gate.specs.contracts.admin.Admin as admin
-use Rattle.managed_run.specs.contracts.docket.Docket as docket
+use Rattle.managed_run.specs.contracts.docket.CoreDocket as docket
 use Rattle.manager_history.specs.contracts.keeper.Keeper as keeper
 use Rattle.manager_history.specs.contracts.entry.Entry as entry
 use Rattle.access_vectors.specs.contracts.questions.Questions as questions
@@ -52,6 +52,6 @@ module _ (κ : _) (C D K R : RattleType) (g : core.Ghosts C.Denot K.Denot R.Deno
   pub keeper_send : IsSend C → IsSync D → IsSend K → IsSend R → IsSend (keeper.the_row κ C D K R g d)
   keeper_send c y k r = let e = entry_send K R k r in search (sendable, crosses) depth 20
 
-module _ (K S : RattleType) where
-  pub docket_send : IsSend K → IsSend S → IsSend (docket.the_row K S)
-  docket_send k s = search (sendable, crosses) depth 20
+module _ (κ : _) (C D K R : RattleType) (g : core.Ghosts C.Denot K.Denot R.Denot) (d : decider.Ghosts D.Denot) where
+  pub docket_send : IsSend C → IsSync D → IsSend K → IsSend R → IsSend (docket.the_row κ C D K R g d)
+  docket_send c y k r = let e = keeper_send in search (sendable, crosses) depth 20
