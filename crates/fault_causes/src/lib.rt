@@ -1,0 +1,29 @@
+//! Causes of faults: what is wrong with a line that a reader refuses, told from its text and from the lines above it.
+//!
+//! The readers say which line is the first faulty one and which kind of fault it has. Here that line is looked at once more: which
+//! word is at fault, what was wanted in its place, and which mistake it looks like. No clause rests on these texts.
+#![tactic(auto)]
+
+mod cause;
+mod counts;
+mod declared;
+mod ends;
+mod explaining;
+mod foreign;
+mod forms;
+mod heads;
+mod lines;
+mod misfits;
+mod names;
+mod orders;
+mod parts;
+mod places;
+mod ranges;
+mod scene;
+mod seconds;
+mod unknowns;
+
+pub use cause::{Cause, Mark};
+pub use explaining::explain;
+pub use lines::{line_at, line_count, text_of};
+pub use names::nearest;

@@ -1,0 +1,60 @@
+//! A faulty line with all that is looked at to explain it.
+
+use crate::cause::Cause;
+use crate::forms::form_of;
+use crate::lines::{Span, line_at, lines_above, spans};
+use crate::places::{Place, place_below};
+use flask_sid::Memory;
+use std::alloc::Global;
+
+/// A faulty line: its words, its place, the lines above it and its form, where it has one.
+#[derive(Drop)]
+pub(crate) struct Scene<'a> {
+    pub(crate) alloc: Global,
+    pub(crate) line: &'a [u8],
+    pub(crate) words: Vec<Span<'a>>,
+    pub(crate) above: Vec<(u32, &'a [u8])>,
+    pub(crate) place: Place,
+    pub(crate) form: Option<&'static str>,
+}
+
+impl<'a> Scene<'a> {
+    /// The line of a number, counted from 1. A line that is not there has no bytes.
+    pub(crate) fn of(alloc: Global, bytes: &'a [u8], number: u32) -> Result<Scene<'a>, Memory> {
+        let line = line_at(bytes, number).unwrap_or(&[]);
+        let words = spans(alloc, line)?;
+        let above = lines_above(alloc, bytes, number)?;
+        let place = place_below(above.as_slice());
+        let form = form_of(place, words.as_slice());
+        Ok(Scene {
+            alloc,
+            line,
+            words,
+            above,
+            place,
+            form,
+        })
+    }
+
+    /// The word at a place, counted from 0, or no letters where the line has no such word.
+    pub(crate) fn word(&self, at: usize) -> &'a str {
+        match self.words.get(at) {
+            None => "",
+            Some(word) => word.text,
+        }
+    }
+
+    /// A cause at the word of a place: behind the line where it has no such word.
+    pub(crate) fn at(&self, at: usize, what: String) -> Cause {
+        let cause = match self.words.get(at) {
+            None => Cause::of(what).at(self.line.len(), 1),
+            Some(word) => Cause::of(what).at(word.from, word.text.len()),
+        };
+        cause.with_form(self.form)
+    }
+
+    /// A cause about the whole line.
+    pub(crate) fn about(&self, what: String) -> Cause {
+        Cause::of(what).with_form(self.form)
+    }
+}

@@ -1,0 +1,22 @@
+//! What `flaskctl` does: its answers about a policy or a session, and how they are printed.
+#![tactic(auto)]
+
+mod answering;
+mod asking;
+mod checking;
+mod counting;
+mod differing;
+mod finding;
+mod holding;
+mod input;
+mod known;
+mod refusing;
+mod report;
+mod source;
+mod stop;
+mod text;
+
+pub use answering::answer;
+pub use input::read_input;
+pub use report::Report;
+pub use stop::Stop;

@@ -1,0 +1,7 @@
+use Rattle.std.proofs.Common.{◌≡◌, ◌++◌}
+use Rattle.audit_allow.specs.Grants.{joined_below}
+use Rattle.policy_answers.specs.Differences.{differences_between}
+use Rattle.policy_answers.proofs.differing.put_from.Given as goal
+
+abbrev pub invariant-targets : goal.invariant-targets
+invariant-targets l = l.found ≡ l.fn.found ++ joined_below l.t (differences_between l.policy l.versions.before l.versions.after l.s)

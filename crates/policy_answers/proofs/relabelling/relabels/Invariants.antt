@@ -1,0 +1,7 @@
+use Rattle.std.proofs.Common.{◌≡◌}
+use Rattle.audit_allow.specs.Grants.{joined_below}
+use Rattle.policy_answers.specs.Relabels.{relabels_from}
+use Rattle.policy_answers.proofs.relabelling.relabels.Given as goal
+
+abbrev pub invariant-sources : goal.invariant-sources
+invariant-sources l = l.found ≡ joined_below l.s (relabels_from l.policy l.before l.after)
