@@ -2,7 +2,6 @@
 use denote.RattleType.{RattleType}
 use denote.Param.Send.{IsSend, IsSync, sendable}
 use Rattle.std.proofs.Crossing.{crosses}
-use Rattle.std.proofs.MapsCrossing as maps
 use Rattle.access_vectors.specs.declared.decider.Decider as decider
 use Rattle.retained_rights.specs.declared.rule.Callback as callback
 use Rattle.file_calls.specs.contracts.call.FileCall as file_call
@@ -18,7 +17,7 @@ use Rattle.atomic_blocks.proofs.web.Seat.TheSendSync as web_seat
 use Rattle.atomic_blocks.proofs.web.Web.TheSendSync as web
 use Rattle.audit_queue.specs.contracts.pens.Pen as pen
 use Rattle.audit_queue.specs.contracts.queue.AuditQueue as audit_queue
-use Rattle.client_acts.specs.contracts.worker.Audit as audit
+use Rattle.thread_run.proofs.Policies.{audit_sync}
 use Rattle.station_crossing.proofs.Gates.{rows_send, piece_send, seat_send, docket_send, keeper_send}
 use Rattle.thread_run.proofs.Cores.{file_core_send, process_core_send, port_core_send}
 use Rattle.station_crossing.proofs.Stations.{station_sync, held_send}
@@ -74,9 +73,6 @@ pen_send = let a = web_seat.the_send in search (sendable, crosses) depth 60
 
 audit_queue_sync : IsSync audit_queue.the_row
 audit_queue_sync = let a = web.the_sync in search (sendable, crosses) depth 60
-
-audit_sync : (κ : _) → IsSync (audit.the_row κ)
-audit_sync κ = search (sendable, crosses, maps.crosses) depth 60 fits 100000
 
 pub slot_send : (κ : _) (D : RattleType) (d : decider.Ghosts D.Denot) → IsSync D → IsSend (slot.the_row κ D d)
 slot_send κ D d y =

@@ -6,4 +6,5 @@ mod Pens
 mod Outcome
 mod Logged
 mod Cores
+mod Policies
 mod Crossing

@@ -1,5 +1,5 @@
 -- The log of a run has the audit lines of its histories.
-use Rattle.std.proofs.Common.{◌≡◌, ◌∙◌, ℕ, ◌+◌, ◌<◌, Bool, true, false, List, [], ◌∷◌, ◌++◌, map, length, All, Some, refl, sym, ap, subst}
+use Rattle.std.proofs.Common.{◌≡◌, ◌∙◌, ℕ, ◌+◌, ◌<◌, Bool, true, false, List, [], ◌∷◌, ◌++◌, map, length, All, Some, refl, sym, ap, subst, arith}
 use Rattle.std.specs.Prelude.{slice_get, is_ok, if◌then◌else◌}
 use Rattle.std.specs.List.{AllZip, list_all}
 use Rattle.std.proofs.lemmas.List.Sums.{AllPass-from_list_all}
@@ -42,14 +42,14 @@ module _ {D : Type 0} (decides : D → Decisions) (prepared : Prepared D) (may :
     (whole : list_all (λ (slot : Slot D). is_ok slot.ended) slots ≡ true)
     (files : List (Entry FileCall FileReply)) (processes : List (Entry ProcessCall ProcessReply)) (ports : List (Entry PortCall PortReply)) (calls : HaveCalls slots files processes ports) where
   module _ (client : ℕ) (slot : Slot D) (here : slice_get slots client ≡ Some slot) where
-    before : (was : Slot D) × (slice_get (slots_of queue 0 prepared.seats.items prepared.scripts.items) client ≡ Some was) × HasWorked prepared.stations was slot × HasPosted audit was slot
+    abbrev before : (was : Slot D) × (slice_get (slots_of queue 0 prepared.seats.items prepared.scripts.items) client ≡ Some was) × (HasWorked prepared.stations was slot × HasPosted audit was slot)
     before = zip_at (λ was now. HasWorked prepared.stations was now × HasPosted audit was now) (slots_of queue 0 prepared.seats.items prepared.scripts.items) slots client slot worked here
 
-    was : Slot D
+    abbrev was : Slot D
     was = before.0
 
-    at : (slice_get prepared.seats.items client ≡ Some was.seats) × (slice_get prepared.scripts.items client ≡ Some was.lines) × (was.pen ≡ new_pen queue (0 + client))
-    at = slot_at queue 0 prepared.seats.items prepared.scripts.items client was before.1
+    abbrev at : (slice_get prepared.seats.items client ≡ Some was.seats) × (slice_get prepared.scripts.items client ≡ Some was.lines) × (was.pen ≡ new_pen queue (0 + client))
+    at = slot_at queue 0 prepared.seats.items prepared.scripts.items client before.0 before.1
 
     number : client_of was ≡ client
     number = (ready_slot decides prepared may queue client was before.1).client_is.files
@@ -63,24 +63,24 @@ module _ {D : Type 0} (decides : D → Decisions) (prepared : Prepared D) (may :
     ran : HasRun client (script_of client session.lines) (standings_of slot.seats)
     ran =
         subst (λ (n : ℕ). HasRun n (script_of client session.lines) (standings_of slot.seats)) number
-        (subst (λ (l : List RunLine). HasRun (client_of was) l (standings_of slot.seats)) script (ran_whole slot.ended ended before.2.ran))
+        (subst (λ (l : List RunLine). HasRun (client_of was) l (standings_of slot.seats)) script (ran_whole slot.ended ended before.2.0.ran))
 
     -- its pen has the client's number, and posted its audit lines
     pub pen_number : slot.pen.number ≡ client
-    pen_number = before.3.number_is ∙ ap (λ (pen : Posted). pen.number) at.2
+    pen_number = before.2.1.number_is ∙ ap (λ (pen : Posted). pen.number) at.2 ∙ omega arith
 
     posted : slot.pen.lines ≡ script_audit audit client (script_of client session.lines) (standings_of slot.seats)
     posted =
-        ran_whole slot.ended ended before.3.lines (subst (RiseFrom 0) (sym script) (script_rises client 0 session.lines rising))
+        ran_whole slot.ended ended before.2.1.lines (subst (RiseFrom 0) (sym script) (script_rises client 0 session.lines rising))
         ∙ (λ i. script_audit audit (number i) (script i) (standings_of slot.seats))
 
     -- they are those of the histories
     same : audit_of client (script_of client session.lines) (own_audit audit (standings_of slot.seats)) ≡ audit_of client session.lines (audited audit.policy.now audit.contexts.now files processes ports)
     same =
         whole_audit audit client session.lines (standings_of slot.seats) files processes ports rising ran
-        (calls.files_are client slot here ∙ ap (λ (n : ℕ). of_caller kind_of n files) (before.2.client.files ∙ number))
-        (calls.processes_are client slot here ∙ ap (λ (n : ℕ). of_caller kind_of n processes) (before.2.client.processes ∙ number))
-        (calls.ports_are client slot here ∙ ap (λ (n : ℕ). of_caller kind_of n ports) (before.2.client.ports ∙ number))
+        (calls.files_are client slot here ∙ ap (λ (n : ℕ). of_caller kind_of n files) (before.2.0.client.files ∙ number))
+        (calls.processes_are client slot here ∙ ap (λ (n : ℕ). of_caller kind_of n processes) (before.2.0.client.processes ∙ number))
+        (calls.ports_are client slot here ∙ ap (λ (n : ℕ). of_caller kind_of n ports) (before.2.0.client.ports ∙ number))
 
     pub lines_are : slot.pen.lines ≡ (if audit.printed then audit_of client session.lines (audited audit.policy.now audit.contexts.now files processes ports) else [])
     lines_are = posted ∙ ap (λ (l : List AuditLine). if audit.printed then l else []) same

@@ -100,7 +100,7 @@ module _ {D : Type 0} (decides : D → Decisions) (prepared : Prepared D) (may :
   all_may_work = all_by_place (λ (slot : Slot D). MayWork decides prepared.stations slot × MayPost queue slot) (slots_of queue 0 prepared.seats.items prepared.scripts.items)
       (λ client slot is.
       let ready = ready_slot client slot is in
-      (may_work client slot ready, may_post client slot (slot_at queue 0 prepared.seats.items prepared.scripts.items client slot is).2 ready))
+      (may_work client slot ready, may_post client slot ((slot_at queue 0 prepared.seats.items prepared.scripts.items client slot is).2 ∙ ap (new_pen queue) (omega arith)) ready))
 
   -- the clients' pens are the queue's yet
   pub are_of_queue : (audit : Audit) (slots : List (Slot D)) → AllZip (λ was now. HasWorked prepared.stations was now × HasPosted audit was now) (slots_of queue 0 prepared.seats.items prepared.scripts.items) slots
@@ -109,7 +109,11 @@ module _ {D : Type 0} (decides : D → Decisions) (prepared : Prepared D) (may :
       (λ client slot here.
       let before = zip_at (λ was now. HasWorked prepared.stations was now × HasPosted audit was now) (slots_of queue 0 prepared.seats.items prepared.scripts.items) slots client slot worked here in
       let at = slot_at queue 0 prepared.seats.items prepared.scripts.items client before.0 before.1 in
-      before.3.queue_is ∙ ap (λ (pen : Posted). pen.queue) at.2)
+      before.2.1.queue_is ∙ ap (λ (pen : Posted). pen.queue) at.2)
+
+  -- there is a place for each client
+  pub all_slots : (slots : List (Slot D)) → AllZip (HasWorked prepared.stations) (slots_of queue 0 prepared.seats.items prepared.scripts.items) slots → length slots ≡ length prepared.seats.items
+  all_slots slots worked = zip_length (HasWorked prepared.stations) (slots_of queue 0 prepared.seats.items prepared.scripts.items) slots worked ∙ slots_length queue 0 prepared.seats.items prepared.scripts.items may.many
 
   module _ (slots : List (Slot D)) (worked : AllZip (HasWorked prepared.stations) (slots_of queue 0 prepared.seats.items prepared.scripts.items) slots)
       (admins : Admins D) (after : AreAfter prepared.stations prepared.staff.admins admins) where

@@ -1,4 +1,4 @@
-use Rattle.std.proofs.Common.{◌≡◌, ◌+◌, length, arith, ap, ◌∙◌}
+use Rattle.std.proofs.Common.{◌≡◌, ◌+◌, length, arith, ap, sym, ◌∙◌}
 use Rattle.std.specs.Vec.Iter.{into_iter_items}
 use Rattle.run_histories.specs.Retiring.{MayLeave}
 use Rattle.run_histories.proofs.Retired.{one_retired, all_rest}
@@ -37,7 +37,10 @@ returns g c =
     let left = into_iter_items c.slots.slot-iterator in
     let none = no_items (into_iter_items c.slots.slot-iterator) (omega (arith, kept.counted, c.in-None.ensures.steps.0)) in
     record {
-      files = left_all (λ (slot : Slot _). slot.seats.files) c.args.stations.now.files c.args.slots.items left c.args.admins.files c.slots.files kept.gate_files kept.of_files none;
-      processes = left_all (λ (slot : Slot _). slot.seats.processes) c.args.stations.now.processes c.args.slots.items left c.args.admins.processes c.slots.processes kept.gate_processes kept.of_processes none;
-      ports = left_all (λ (slot : Slot _). slot.seats.ports) c.args.stations.now.ports c.args.slots.items left c.args.admins.ports c.slots.ports kept.gate_ports kept.of_ports none;
+      left = record {
+        files = left_all (λ (slot : Slot _). slot.seats.files) c.args.stations.now.files c.args.slots.items left c.args.admins.files c.slots.files kept.gate_files kept.of_files none;
+        processes = left_all (λ (slot : Slot _). slot.seats.processes) c.args.stations.now.processes c.args.slots.items left c.args.admins.processes c.slots.processes kept.gate_processes kept.of_processes none;
+        ports = left_all (λ (slot : Slot _). slot.seats.ports) c.args.stations.now.ports c.args.slots.items left c.args.admins.ports c.slots.ports kept.gate_ports kept.of_ports none;
+      };
+      taker = sym (pens_none c.slots.taker left none) ∙ kept.taker;
     }
