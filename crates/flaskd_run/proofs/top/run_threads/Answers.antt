@@ -36,6 +36,6 @@ returns-clause-writes g c =
     threads_writes c.write_ended.result c.args.session c.into_parts.result (sids_of c.args.catalogue.now) d c.in_ok-ended.ended
     (g.K.Sink.written c.args.sink.now) (g.K.Sink.written c.write_ended.new.sink) c.into_parts.ensures.value c.requires.decides c.in_ok-ended.ensures.ended
     (subst (λ (contexts : List (ContextOf (List ℕ))). OnOk c.write_ended.result (Adds (g.K.Sink.written c.args.sink.now) (g.K.Sink.written c.write_ended.new.sink) (text_of contexts c.into_parts.result c.in_ok-ended.ended)))
-    c.sids.ensures (c.write_ended.ensures.ok d c.into_parts.result c.in_ok-ended.ensures.ended c.in_ok-ended.ensures.log))
+    c.sids-contexts.ensures (c.write_ended.ensures.ok d c.into_parts.result c.in_ok-ended.ensures.ended c.in_ok-ended.ensures.log))
     (subst (λ (contexts : List (ContextOf (List ℕ))). OnErr c.write_ended.result (AddsFront (g.K.Sink.written c.args.sink.now) (g.K.Sink.written c.write_ended.new.sink) (text_of contexts c.into_parts.result c.in_ok-ended.ended)))
-    c.sids.ensures (c.write_ended.ensures.err d c.into_parts.result c.in_ok-ended.ensures.ended c.in_ok-ended.ensures.log))
+    c.sids-contexts.ensures (c.write_ended.ensures.err d c.into_parts.result c.in_ok-ended.ensures.ended c.in_ok-ended.ensures.log))
