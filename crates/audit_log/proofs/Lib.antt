@@ -1,2 +1,3 @@
 pub mod AuditLemmas
 pub mod LogLemmas
+pub mod CallLemmas

@@ -1,6 +1,6 @@
 -- Which questions have an audit line.
 use Rattle.std.specs.Prelude.{ℕ, Bool, not, ◌&&◌, List, [], map, if◌then◌else◌}
-use Rattle.std.specs.List.{list_any, filter}
+use Rattle.std.specs.List.{list_any, filter, flat_map}
 use Rattle.flask_sid.specs.declared.context.ContextOf.{ContextOf}
 use Rattle.access_vectors.specs.Table.{Permission}
 use Rattle.access_vectors.specs.declared.asked.Asked.{Asked}
@@ -42,3 +42,7 @@ lines_of policy contexts (Aborted caller mark call number) = []
 lines_of policy contexts (Notice number version) = []
 lines_of policy contexts (Ack number) = []
 lines_of policy contexts (Forced number) = []
+
+-- the audit lines of entries, in their order
+abbrev pub audited_in : {Call Reply : Type 0} → PolicyParts → List (ContextOf (List ℕ)) → List (Entry Call Reply) → List AuditLine
+audited_in policy contexts log = flat_map (lines_of policy contexts) log

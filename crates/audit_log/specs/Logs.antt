@@ -1,5 +1,5 @@
 -- Audit lines, client by client.
-use Rattle.std.specs.Prelude.{◌≡◌, ℕ, Bool, ◌==◌, List, [], ◌++◌, length, slice_get, unwrap_or}
+use Rattle.std.specs.Prelude.{◌≡◌, ℕ, Bool, ◌==◌, ◌&&◌, List, [], ◌++◌, length, slice_get, unwrap_or}
 use Rattle.std.specs.List.{filter}
 use Rattle.audit_log.specs.declared.audited.AuditLine.{AuditLine}
 
@@ -10,6 +10,10 @@ of_client log client = unwrap_or (slice_get log client) []
 -- a line of that client
 abbrev pub is_of : ℕ → AuditLine → Bool
 is_of client line = line.client == client
+
+-- a line of the call of that client with that mark
+abbrev pub is_of_call : ℕ → ℕ → AuditLine → Bool
+is_of_call client mark line = (line.client == client) && (line.mark == mark)
 
 -- those of these lines that are a client's, in their order
 abbrev pub lines_by : ℕ → List AuditLine → List AuditLine

@@ -11,15 +11,19 @@ use Rattle.audit_log.specs.declared.audited.AuditLine.{AuditLine}
 use Rattle.audit_queue.specs.declared.knowledge.KeptLines.{KeptLines}
 use Rattle.audit_queue.specs.declared.knowledge.Knowledge.{Knowledge}
 
+-- which queue it is
+abbrev pub QueueId : Type 0
+QueueId = SegId Global
+
 -- a pen: its queue, its number, and the lines that it posted, in order
 pub record Posted : Type 0 where
-  pub queue : SegId Global
+  pub queue : QueueId
   pub number : ℕ
   pub lines : List AuditLine
 
 -- the taker: its queue, how many pens there may be and how many were made, and what each retired one posted
 pub record Taken : Type 0 where
-  pub queue : SegId Global
+  pub queue : QueueId
   pub clients : ℕ
   pub made : ℕ
   pub kept : List KeptLines

@@ -1,5 +1,6 @@
 -- A call at a station, and what it changes of where the client stands.
-use Rattle.std.proofs.Common.{◌≡◌, ℕ, ◌≤◌, ◌∙◌, List, [], ◌∷◌, ◌++◌, Option, Some, None, unwrap_or, is_some, true, false, refl, sym, ap, subst, arith, append_assoc}
+use Rattle.std.proofs.Common.{◌≡◌, ℕ, ◌≤◌, ◌∙◌, ◌⊎◌, inl, inr, List, [], ◌∷◌, ◌++◌, Option, Some, None, unwrap_or, is_some, true, false, refl, sym, ap, subst, arith, append_assoc}
+use Rattle.std.specs.Prelude.{Result, Ok, Err, OnOk, OnErr}
 use Rattle.access_vectors.specs.Decisions.{Decisions}
 use Rattle.access_vectors.specs.declared.asked.Asked.{Asked}
 use Rattle.manager_history.specs.declared.entry.Entry.{Entry}
@@ -14,10 +15,11 @@ use Rattle.gate_rule.specs.Views.{number_of}
 use Rattle.epoch_gate.specs.Seats.{SeatView, pass_of}
 use Rattle.epoch_gate.specs.Known.{seen_by, caller_number, pass_held, pass_number}
 use Rattle.managed_run.specs.Kinds.{kind_of}
-use Rattle.managed_run.specs.Calls.{HasAdded, HasAnswered, KeepsPass, operation_of, aborted_of}
+use Rattle.managed_run.specs.Calls.{HasAdded, HasAddedNone, HasAnswered, KeepsPass, operation_of, aborted_of}
 use Rattle.client_acts.specs.Acts.{IsEntryOf, MayHave}
 use Rattle.client_acts.specs.Standings.{Standing, standing_of, number_held}
-use Rattle.client_acts.specs.Moves.{GoesOn, HasTaken, HasGiven, HasCalled}
+use Rattle.client_acts.specs.Moves.{GoesOn, HasTaken, HasGiven, HasCalled, HasCalledNone}
+use Rattle.client_acts.specs.Audits.{IsAnswered}
 use Rattle.client_acts.proofs.Newest.{rises, operation_noticed, aborted_noticed}
 
 -- the number of a pass that is held
@@ -121,6 +123,56 @@ module _ {Call Reply State D O : Type 0} (plain : Manager Call Reply State) (for
       (aborted_noticed plain formed d opening answered.added.before (caller_number taken) mark call (pass_number taken)
       (subst (IsLawful plain formed d (start_of opening)) answered.added.seen lawful)))
       (λ number under same. (same, refl, refl, under))
+
+  -- ---- a call under a pass, and what was there before
+
+  module _ (use_of : ℕ → Call → Option ℕ) (mark : ℕ) (call : Call) (s taken t : SeatView (Entry Call Reply) D O) where
+    module _ (given : SeatView (Entry Call Reply) D O) (took : HasTaken (standing_of s) (standing_of taken)) (kept : KeepsPass taken t) (lawful : IsLawful plain formed d (start_of opening) (seen_by t))
+        (none : number_held (pass_held s) ≡ None) (gave : HasGiven (standing_of t) (standing_of given)) where
+      given_call : IsAnswered use_of mark call taken t → HasCalled mark call (standing_of s) (standing_of given)
+      given_call is =
+          called_given mark call (standing_of s) (standing_of t) (standing_of given) none (called use_of mark call is.0 is.1 s taken t took kept lawful is.2) gave
+
+      given_none : HasAddedNone taken t → HasCalledNone (standing_of s) (standing_of given)
+      given_none added = record { client = gave.client ∙ (kept.number ∙ took.on.client); held = gave.held ∙ sym none; none = gave.none ∙ (added.mine ∙ took.none) }
+
+    module _ (took : HasTaken (standing_of s) (standing_of taken)) (kept : KeepsPass taken t) (lawful : IsLawful plain formed d (start_of opening) (seen_by t)) (other : ℕ)
+        (held : number_held (pass_held s) ≡ Some other) where
+      kept_call : IsAnswered use_of mark call taken t → HasCalled mark call (standing_of s) (standing_of t)
+      kept_call is = called_held mark call (standing_of s) (standing_of t) other held (called use_of mark call is.0 is.1 s taken t took kept lawful is.2)
+
+      kept_none : HasAddedNone taken t → HasCalledNone (standing_of s) (standing_of t)
+      kept_none added = record {
+        client = kept.number ∙ took.on.client;
+        held = ap number_held kept.pass ∙ (took.held ∙ sym (goes_under (number_held (pass_held s)) (standing_of s).newest took.number took.may other held));
+        none = added.mine ∙ took.none;
+      }
+
+  module _ (use_of : ℕ → Call → Option ℕ) (mark : ℕ) (call : Call) (s taken t given : SeatView (Entry Call Reply) D O) (took : HasTaken (standing_of s) (standing_of taken)) (kept : KeepsPass taken t)
+      (lawful : IsLawful plain formed d (start_of opening) (seen_by t)) (none : number_held (pass_held s) ≡ None) (gave : HasGiven (standing_of t) (standing_of given)) {X E : Type 0} where
+    -- the pass was taken for the call, and given back
+    pub once_given : (result : Result X E) → OnOk result (IsAnswered use_of mark call taken t) → OnOk result (HasCalled mark call (standing_of s) (standing_of given))
+    once_given (Ok x) is = given_call use_of mark call s taken t given took kept lawful none gave is
+    once_given (Err e) is = tt
+
+    pub refused_given : (result : Result X E) → OnErr result (HasAddedNone taken t ⊎ IsAnswered use_of mark call taken t)
+        → OnErr result (HasCalledNone (standing_of s) (standing_of given) ⊎ HasCalled mark call (standing_of s) (standing_of given))
+    refused_given (Ok x) is = tt
+    refused_given (Err e) (inl added) = inl (given_none use_of mark call s taken t given took kept lawful none gave added)
+    refused_given (Err e) (inr is) = inr (given_call use_of mark call s taken t given took kept lawful none gave is)
+
+  module _ (use_of : ℕ → Call → Option ℕ) (mark : ℕ) (call : Call) (s taken t : SeatView (Entry Call Reply) D O) (took : HasTaken (standing_of s) (standing_of taken)) (kept : KeepsPass taken t)
+      (lawful : IsLawful plain formed d (start_of opening) (seen_by t)) (other : ℕ) (held : number_held (pass_held s) ≡ Some other) {X E : Type 0} where
+    -- the pass was held before
+    pub once_kept : (result : Result X E) → OnOk result (IsAnswered use_of mark call taken t) → OnOk result (HasCalled mark call (standing_of s) (standing_of t))
+    once_kept (Ok x) is = kept_call use_of mark call s taken t took kept lawful other held is
+    once_kept (Err e) is = tt
+
+    pub refused_kept : (result : Result X E) → OnErr result (HasAddedNone taken t ⊎ IsAnswered use_of mark call taken t)
+        → OnErr result (HasCalledNone (standing_of s) (standing_of t) ⊎ HasCalled mark call (standing_of s) (standing_of t))
+    refused_kept (Ok x) is = tt
+    refused_kept (Err e) (inl added) = inl (kept_none use_of mark call s taken t took kept lawful other held added)
+    refused_kept (Err e) (inr is) = inr (kept_call use_of mark call s taken t took kept lawful other held is)
 
 -- what a look at a pass told of it: whether it is held, and under which number
 pub held_none : (pass : Pass) (told : Option (ℕ × ℕ)) → pass ≡ pass_of told → is_some told ≡ false → number_held pass ≡ None

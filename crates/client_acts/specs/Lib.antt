@@ -1,3 +1,4 @@
 pub mod Acts
 pub mod Standings
 pub mod Moves
+pub mod Audits

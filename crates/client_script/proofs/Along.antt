@@ -1,5 +1,5 @@
 -- A script goes on by what a line does at a manager.
-use Rattle.std.proofs.Common.{◌≡◌, ℕ, ◌≤◌, ◌<◌, ◌∙◌, List, [], ◌∷◌, ◌++◌, length, Option, Some, None, unwrap_or, refl, sym, ap, subst, arith, append_assoc}
+use Rattle.std.proofs.Common.{◌≡◌, ℕ, ◌≤◌, ◌<◌, ◌∙◌, ◌⊎◌, inl, inr, List, [], ◌∷◌, ◌++◌, length, Option, Some, None, unwrap_or, refl, sym, ap, subst, arith, append_assoc}
 use Rattle.std.proofs.lemmas.List.{append-nil}
 use Rattle.manager_history.specs.declared.entry.Entry.{Entry}
 use Rattle.session_text.specs.declared.session.Run.{Run}
@@ -159,3 +159,14 @@ module _ {Call Reply : Type 0} (act : ℕ → Run → List (Act Call)) (client :
         split = along.split;
         leads = subst (λ (mine : List (Entry Call Reply)). Leads client None 0 along.done mine) (sym none.none) (front_of left s along);
       }
+
+  -- what was done so far is a front
+  pub along_so_far : (left : List RunLine) (s : Standing Call Reply) → IsAlong act client all left s → IsFrontOf act client all s.mine
+  along_so_far left s along = along_front left s s along (record { client = refl; held = refl; none = refl })
+
+  -- and so it is after a line that wanted memory
+  pub along_stopped : (line : RunLine) (left : List RunLine) (s t : Standing Call Reply) → IsAlong act client all (line ∷ left) s → HasCalledNone s t ⊎ HasMoved (act line.line line.run) s t
+      → (t.client ≡ client) × IsFrontOf act client all t.mine
+  along_stopped line left s t along (inl none) = (none.client ∙ along.client_is, along_front (line ∷ left) s t along none)
+  along_stopped line left s t along (inr moved) =
+      let behind = along_line line left s t along (act line.line line.run) refl moved in (behind.client_is, along_so_far left t behind)

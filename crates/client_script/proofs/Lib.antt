@@ -1,2 +1,4 @@
 pub mod Along
 pub mod Steps
+pub mod Marks
+pub mod Posted

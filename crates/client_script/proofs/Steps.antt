@@ -5,9 +5,9 @@ use Rattle.std.proofs.lemmas.List.Elements.{All-head, All-tail}
 use Rattle.session_text.specs.declared.session.RunLine.{RunLine}
 use Rattle.client_acts.specs.Moves.{HasGiven}
 use Rattle.client_script.specs.Scripts.{IsWhole, IsFrontOf, file_act, process_act, port_act}
-use Rattle.client_script.specs.Clients.{Standings, AreOf, HaveRoom, HaveNone, HoldNone, HasDone, HasDoneNone, HasRun, HasRunFront}
+use Rattle.client_script.specs.Clients.{Standings, AreOf, HaveRoom, HaveNone, HoldNone, HasDone, HasStopped, HasRun, HasRunFront}
 use Rattle.client_script.specs.Underway.{AreAlong}
-use Rattle.client_script.proofs.Along.{along_first, along_line, along_last, along_front}
+use Rattle.client_script.proofs.Along.{along_first, along_line, along_last, along_so_far, along_stopped}
 
 -- before the first line
 pub all_first : (client : ℕ) (lines : List RunLine) (s : Standings) → AreOf client s → HaveNone s → HaveRoom (length lines) s → AreAlong client lines lines s
@@ -36,13 +36,31 @@ all_last client lines s along =
       ports = along_last port_act client lines s.ports along.ports;
     }
 
--- after a line that was given up
-pub all_front : (client : ℕ) (all left : List RunLine) (s t : Standings) → AreAlong client all left s → HasDoneNone s t → HasRunFront client all t
-all_front client all left s t along none =
+-- so far
+pub all_so_far : (client : ℕ) (all left : List RunLine) (s : Standings) → AreAlong client all left s → HasRunFront client all s
+all_so_far client all left s along =
     record {
-      files = along_front file_act client all left s.files t.files along.files none.files;
-      processes = along_front process_act client all left s.processes t.processes along.processes none.processes;
-      ports = along_front port_act client all left s.ports t.ports along.ports none.ports;
+      files = along_so_far file_act client all left s.files along.files;
+      processes = along_so_far process_act client all left s.processes along.processes;
+      ports = along_so_far port_act client all left s.ports along.ports;
+    }
+
+-- after a line that wanted memory
+pub all_stopped : (client : ℕ) (all left : List RunLine) (line : RunLine) (s t : Standings) → AreAlong client all (line ∷ left) s → HasStopped line.line line.run s t → HasRunFront client all t
+all_stopped client all left line s t along stopped =
+    record {
+      files = (along_stopped file_act client all line left s.files t.files along.files stopped.files).1;
+      processes = (along_stopped process_act client all line left s.processes t.processes along.processes stopped.processes).1;
+      ports = (along_stopped port_act client all line left s.ports t.ports along.ports stopped.ports).1;
+    }
+
+-- the client is the same then
+pub stopped_of : (client : ℕ) (all left : List RunLine) (line : RunLine) (s t : Standings) → AreAlong client all (line ∷ left) s → HasStopped line.line line.run s t → AreOf client t
+stopped_of client all left line s t along stopped =
+    record {
+      files = (along_stopped file_act client all line left s.files t.files along.files stopped.files).0;
+      processes = (along_stopped process_act client all line left s.processes t.processes along.processes stopped.processes).0;
+      ports = (along_stopped port_act client all line left s.ports t.ports along.ports stopped.ports).0;
     }
 
 -- the client is the same on its way
@@ -105,8 +123,3 @@ rest_of Holds left rest line is all = All-tail Holds line rest (subst (All Holds
 pub on_err_of : {T E : Type 0} (result : Result T E) (Holds : Type 0) → Holds → OnErr result Holds
 on_err_of (Ok x) Holds holds = tt
 on_err_of (Err e) Holds holds = holds
-
--- the client is the same after a line that was given up
-pub none_of : (client : ℕ) (s t : Standings) → AreOf client s → HasDoneNone s t → AreOf client t
-none_of client s t of none =
-    record { files = none.files.client ∙ of.files; processes = none.processes.client ∙ of.processes; ports = none.ports.client ∙ of.ports }

@@ -1,5 +1,5 @@
 -- A client at the three stations.
-use Rattle.std.specs.Prelude.{◌≡◌, ℕ, ◌<◌, List, [], None}
+use Rattle.std.specs.Prelude.{◌≡◌, ℕ, ◌<◌, ◌⊎◌, List, [], None}
 use Rattle.access_vectors.specs.Decisions.{Decisions}
 use Rattle.epoch_gate.specs.Seats.{SeatView, Site, IsOfGate}
 use Rattle.epoch_gate.specs.Known.{decider_of, IsIdle}
@@ -61,11 +61,17 @@ pub record HasDone (mark : ℕ) (asks : Run) (s t : Standings) : Type 0 where
   pub processes : HasMoved (process_act mark asks) s.processes t.processes
   pub ports : HasMoved (port_act mark asks) s.ports t.ports
 
--- after a line that was given up for want of memory: there is no new entry
-pub record HasDoneNone (s t : Standings) : Type 0 where
-  pub files : HasCalledNone s.files t.files
-  pub processes : HasCalledNone s.processes t.processes
-  pub ports : HasCalledNone s.ports t.ports
+-- the client's own entries are as before
+pub record HaveSame (s t : Standings) : Type 0 where
+  pub files : t.files.mine ≡ s.files.mine
+  pub processes : t.processes.mine ≡ s.processes.mine
+  pub ports : t.ports.mine ≡ s.ports.mine
+
+-- after a line that wanted memory: at each manager there is no new entry, or what the line does there was done
+pub record HasStopped (mark : ℕ) (asks : Run) (s t : Standings) : Type 0 where
+  pub files : HasCalledNone s.files t.files ⊎ HasMoved (file_act mark asks) s.files t.files
+  pub processes : HasCalledNone s.processes t.processes ⊎ HasMoved (process_act mark asks) s.processes t.processes
+  pub ports : HasCalledNone s.ports t.ports ⊎ HasMoved (port_act mark asks) s.ports t.ports
 
 -- a script was run whole: at each manager the client's own entries are those of its calls, in order
 pub record HasRun (client : ℕ) (lines : List RunLine) (s : Standings) : Type 0 where

@@ -1,3 +1,4 @@
 pub mod Scripts
 pub mod Clients
 pub mod Underway
+pub mod Audits

@@ -1,5 +1,6 @@
 -- A run from its openings on.
-use Rattle.std.proofs.Common.{◌≡◌, ◌+◌, ◌<◌, ℕ, Bool, true, List, [], ◌++◌, length, Option, IsTrue, refl, ap, sym, ◌∙◌}
+use Rattle.std.proofs.Common.{◌≡◌, ◌+◌, ◌<◌, ◌≤◌, ℕ, Bool, true, List, [], ◌∷◌, ◌++◌, length, All, Option, Some, IsTrue, refl, ap, subst, sym, ◌∙◌, arith}
+use Rattle.std.proofs.lemmas.List.Elements.{All-pop}
 use Rattle.std.specs.Prelude.{◌^◌, replicate}
 use Rattle.std.proofs.lemmas.List.{length-map}
 use Rattle.flask_sid.specs.declared.context.ContextOf.{ContextOf}
@@ -7,7 +8,17 @@ use Rattle.access_vectors.specs.Decisions.{Decisions}
 use Rattle.audit_log.specs.Logs.{Gains}
 use Rattle.audit_log.specs.declared.audited.AuditLine.{AuditLine}
 use Rattle.policy_model.specs.declared.policy.PolicyParts.{PolicyParts}
-use Rattle.session_text.specs.Sessions.{IsSession, IsSidOf}
+use Rattle.policy_model.specs.Kept.{Grows}
+use Rattle.manager_history.specs.declared.entry.Entry.{Entry}
+use Rattle.file_calls.specs.declared.call.FileCall.{FileCall}
+use Rattle.file_calls.specs.declared.call.FileReply.{FileReply}
+use Rattle.process_calls.specs.declared.call.ProcessCall.{ProcessCall}
+use Rattle.process_calls.specs.declared.call.ProcessReply.{ProcessReply}
+use Rattle.port_calls.specs.declared.call.PortCall.{PortCall}
+use Rattle.port_calls.specs.declared.call.PortReply.{PortReply}
+use Rattle.client_script.specs.Audits.{RiseFrom}
+use Rattle.run_histories.specs.Audits.{IsLogOf}
+use Rattle.session_text.specs.Sessions.{IsSession, IsSidOf, MayLine}
 use Rattle.session_text.proofs.SessionLemmas.{few_clients, few_lines}
 use Rattle.session_text.specs.declared.session.ClientLine.{ClientLine}
 use Rattle.session_text.specs.declared.session.RunLine.{RunLine}
@@ -87,3 +98,25 @@ plan_of session plan openings_is clients_is lines_is = record {
   clients_are = clients_is;
   lines_are = lines_is;
 }
+
+-- the numbers of a session's lines rise
+rising_from : (May : List RunLine → RunLine → Type 0) → ((seen : List RunLine) (line : RunLine) → May seen line → All (λ (above : RunLine). above.line < line.line) seen)
+    → (least : ℕ) (seen lines : List RunLine) → ((line : RunLine) → All (λ (above : RunLine). above.line < line.line) seen → least ≤ line.line) → Grows May seen lines → RiseFrom least lines
+rising_from May below least seen [] past grows = tt
+rising_from May below least seen (line ∷ lines) past grows = (
+  past line (below seen line grows.0),
+  rising_from May below (line.line + 1) (seen ++ line ∷ [])
+      lines
+      (λ next all. let last = (All-pop (λ (above : RunLine). above.line < next.line) (seen ++ line ∷ []) seen (Some line) refl all).1 in omega (arith, last)) grows.1,
+)
+
+pub session_rises : (session : SessionParts) → IsSession session → RiseFrom 0 session.lines
+session_rises session is =
+    rising_from (MayLine session.policy.contexts session.clients) (λ seen line may. may.below) 0 [] session.lines (λ line all. omega arith) is.lines
+
+-- a log of the audit lines by a policy that is the session's, whether they are printed or not
+pub log_by : (session : SessionParts) (policy : PolicyParts) (contexts : List (ContextOf (List ℕ))) (files : List (Entry FileCall FileReply)) (processes : List (Entry ProcessCall ProcessReply))
+    (ports : List (Entry PortCall PortReply)) (log : List (List AuditLine)) → policy ≡ session.policy → IsLogOf policy contexts files processes ports session.audit (length session.clients) session.lines log
+    → IsLogOf session.policy contexts files processes ports session.audit (length session.clients) session.lines log
+log_by session policy contexts files processes ports log same is =
+    subst (λ (p : PolicyParts). IsLogOf p contexts files processes ports session.audit (length session.clients) session.lines log) same is

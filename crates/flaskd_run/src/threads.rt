@@ -13,6 +13,8 @@ ghost use Rattle.flaskd_run.specs.Threads;
 
 use crate::serial::openings_of;
 use access_vectors::Decider;
+use audit_log::AuditLog;
+use client_acts::Audit;
 use flask_io::Sink;
 use flask_sid::{Memory, Rows, SidTable};
 use policy_model::PolicyText;
@@ -24,30 +26,34 @@ use session_text::{ClientLine, SessionParts};
 use std::alloc::Global;
 use std::sync::Wait;
 use std::thread::Threads;
+use thread_run::Ran;
 use threaded_session::{Plan, run_plan};
 use threads_print::{Histories, write_run};
 
-/// What is left of a session that was run: what its print needs, and the keepers with their histories.
+/// What is left of a session that was run: what its print needs, the keepers with their histories, and the log of its audit lines.
 #[derive(Drop)]
 pub struct Ended<'d, D: Decider> {
     policy: PolicyText,
     clients: Rows<ClientLine>,
     audit: bool,
     closed: Closed<'d, D, EachBits, AllBits, AllBits>,
+    log: AuditLog,
 }
 
-/// Runs a session on a decider, to its end.
+/// Runs a session on a decider, to its end. Its audit lines are told by the contexts of the policy's identifiers.
 pub fn run_to_end<'d, R: Threads + Wait + Sync, D: Decider + Sync, G: Stops + Sync>(
     rt: &R,
     alloc: Global,
     session: SessionParts,
     decider: &'d D,
+    contexts: &SidTable,
     stops: &G,
 ) -> Result<Ended<'d, D>, Memory>
     requires session { IsSession session }
     requires openings { AreOpenings (D.decides decider.now) (Serial.openings_of session) }
     requires known { (sid : ℕ) → IsSidOf session.policy.contexts sid → IsTrue ((D.decides decider.now).known sid) }
-    ensures { IfOk result (Threads.HasEnded (D.decides decider.now) session) }
+    ensures ended { IfOk result (Threads.HasEnded (D.decides decider.now) session) }
+    ensures log { IfOk result (Threads.IsLogged contexts.now session) }
 {
     let SessionParts {
         policy,
@@ -64,12 +70,18 @@ pub fn run_to_end<'d, R: Threads + Wait + Sync, D: Decider + Sync, G: Stops + Sy
         clients: clients.len() as u8,
         lines: lines.into_vec(),
     };
-    let closed = run_plan(rt, alloc, decider, plan, stops)?;
+    let rules = Audit {
+        policy: policy.parts(),
+        contexts,
+        printed: audit,
+    };
+    let Ran { closed, log } = run_plan(rt, alloc, decider, plan, &rules, stops)?;
     Ok(Ended {
         policy,
         clients,
         audit,
         closed,
+        log,
     })
 }
 
@@ -82,9 +94,10 @@ pub fn write_ended<D: Decider, K: Sink>(
     sink: &mut K,
 ) -> Result<(), RunStop>
     requires few { length ended.now.clients ≤ 62 }
-    ensures ok { (d : Decisions) (session : SessionParts) → IsSession session → Threads.HasEnded d session ended.now
+    requires log { length ended.now.log ≡ length ended.now.clients }
+    ensures ok { (d : Decisions) (session : SessionParts) → Threads.HasEnded d session ended.now → Threads.IsLogged contexts.now session ended.now
         → OnOk result (Adds (K.written sink.old) (K.written sink.new) (Threads.text_of contexts.now session ended.now)) }
-    ensures err { (d : Decisions) (session : SessionParts) → IsSession session → Threads.HasEnded d session ended.now
+    ensures err { (d : Decisions) (session : SessionParts) → Threads.HasEnded d session ended.now → Threads.IsLogged contexts.now session ended.now
         → OnErr result (AddsFront (K.written sink.old) (K.written sink.new) (Threads.text_of contexts.now session ended.now)) }
     ensures cause { HasCause (K.faults sink.old) (K.faults sink.new) (result ≡ Err RunStop.WriteFault) }
 {
@@ -99,5 +112,5 @@ pub fn write_ended<D: Decider, K: Sink>(
         processes: ended.closed.processes.entries(),
         ports: ended.closed.ports.entries(),
     };
-    write_run(alloc, &setting, &histories, sink)
+    write_run(alloc, &setting, &histories, &ended.log, sink)
 }

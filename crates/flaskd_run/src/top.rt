@@ -215,8 +215,9 @@ fn run_threads<R: Threads + Wait + Sync, K: Sink, G: Stops + Sync>(
     ensures writes { Tasks.Writes result (task.Threads session) (sids_of catalogue.now) (K.written sink.old) (K.written sink.new) }
     ensures cause { HasCause (K.faults sink.old) (K.faults sink.new) (result ≡ Err RunStop.WriteFault) }
 {
-    let ended = run_to_end(rt, alloc, session.into_parts(), catalogue, stops)?;
-    write_ended(alloc, &ended, catalogue.sids(), sink)
+    let contexts = catalogue.sids();
+    let ended = run_to_end(rt, alloc, session.into_parts(), catalogue, contexts, stops)?;
+    write_ended(alloc, &ended, contexts, sink)
 }
 
 /// Runs a session whose policy is compiled, and writes its summary alone.

@@ -1,21 +1,18 @@
 -- What closed histories, and the walk of the administrator's lines, say of the histories of a threaded run.
-use Rattle.std.proofs.Common.{◌≡◌, ℕ, ◌<◌, ◌≤◌, ◌⊎◌, inl, inr, Bool, true, false, List, [], ◌∷◌, ◌++◌, map, length, Option, Some, None, refl, sym, ap, subst, ◌∙◌, append-nil, arith}
+use Rattle.std.proofs.Common.{◌≡◌, ℕ, ◌≤◌, inl, inr, Bool, true, false, List, [], ◌∷◌, ◌++◌, map, length, Option, Some, None, refl, sym, ap, subst, ◌∙◌, append-nil, arith}
 use Rattle.std.specs.Prelude.{◌==◌, nat_lt, not, ◌&&◌, ◌||◌, if◌then◌else◌}
-use Rattle.std.specs.List.{filter, list_any, fold}
+use Rattle.std.specs.List.{filter, fold}
 use Rattle.std.proofs.lemmas.List.Elements.{filter-append}
-use Rattle.std.proofs.lemmas.List.Sums.{fold_push}
 use Rattle.std.proofs.lemmas.Bool.Decides.{nat_tests}
 use Rattle.access_vectors.specs.Decisions.{Decisions}
 use Rattle.access_vectors.specs.Forced.{forced_to}
-use Rattle.access_vectors.specs.Phases.{is_pending, acknowledged}
+use Rattle.access_vectors.specs.Phases.{is_pending}
 use Rattle.access_vectors.specs.declared.phase.Phase.{Phase}
 use Rattle.access_vectors.specs.declared.phase.Phase.TheVariants.{Settled, Pending}
 use Rattle.manager_history.specs.declared.entry.Entry.{Entry}
 use Rattle.manager_history.specs.declared.entry.Entry.TheVariants.{Op, Aborted, Notice, Ack, Forced}
 use Rattle.manager_history.specs.Answers.{Manager}
 use Rattle.manager_history.specs.Histories.{moment, start_of, answer_at, IsLawful}
-use Rattle.managed.specs.Seen.{Turn, event_of}
-use Rattle.managed.specs.declared.managed.Event.{Event}
 use Rattle.gate_rule.specs.declared.view.Item.{Item}
 use Rattle.gate_rule.specs.History.{controls, of_caller, phase_after}
 use Rattle.gate_rule.specs.Views.{entries_of}
@@ -41,11 +38,11 @@ use Rattle.session_text.specs.declared.session.Run.{Run}
 use Rattle.session_text.specs.declared.session.Run.TheVariants as run
 use Rattle.session_text.specs.declared.session.RunLine.{RunLine}
 use Rattle.client_acts.specs.Acts.{Act}
-use Rattle.client_script.specs.Scripts.{is_of_admin, admin_script, script_of, file_act, process_act, port_act, IsWhole}
+use Rattle.client_script.specs.Scripts.{admin_script, script_of, file_act, process_act, port_act, IsWhole}
 use Rattle.admin_walk.specs.Explained.{Later, TakesIf, SettlesIf, ExplainsLine, Explains}
-use Rattle.admin_walk.specs.Moves.{notice_of, notices_of, forcing_of, forced_of, forces, versions_of}
-use Rattle.run_histories.specs.Histories.{HoldsScripts, IsOneOf, IsClosed, IsWalked, HasRunAt, AreOfRun, file_opening, process_opening, port_opening}
-use Rattle.run_histories.specs.Changes.{notice_in, noticed_in, acknowledged_in, forced_in, numbers_of, is_among, changes_in}
+use Rattle.admin_walk.specs.Moves.{notices_of, forced_of, forces, versions_of}
+use Rattle.run_histories.specs.Histories.{IsOneOf, IsClosed, IsWalked, HasRunAt, KeepsCalls, AreOfRun, file_opening, process_opening, port_opening}
+use Rattle.run_histories.specs.Changes.{noticed_in, acknowledged_in, forced_in, numbers_of, is_among, changes_in}
 use Rattle.station_end.specs.Settling.{settling, settled, HasSettled}
 
 -- the pending number, if one is pending
@@ -342,3 +339,8 @@ ended_one {Call = Call} {Reply = Reply} plain formed d opening act session chose
           (subst (λ (l : List (Entry Call Reply)). IsLawful plain formed d (start_of opening) l) ended.settled_is lawful)),
       ap noticed_in ended.settled_is ∙ notices_are plain formed d opening act (length session.clients) session.lines chosen (turns_had admin) ended.closed closed ran.walked,
     )
+
+-- and has each retired seat's entries as the calls of its number
+pub keeps_calls : {Call Reply D O : Type 0} (admin : SeatView (Entry Call Reply) D O) (log : List (Entry Call Reply)) → HasSettled admin log → KeepsCalls admin log
+keeps_calls admin log ended = λ k one at.
+    ended.ended.ended k one at ∙ (sym (settled_calls one.number ended.closed) ∙ ap (of_caller kind_of one.number) (sym ended.settled_is))

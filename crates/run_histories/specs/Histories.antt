@@ -96,6 +96,11 @@ pub record MayEnd {Call Reply D O : Type 0} (site : Site D O) (admin : SeatView 
   pub out : seats_made admin ≡ length (seats_retired admin)
   pub idle : IsIdle admin
 
+-- a history has, for each seat that was retired at its station, exactly the seat's own entries as the calls of its number
+abbrev pub KeepsCalls : {Call Reply D O : Type 0} → SeatView (Entry Call Reply) D O → List (Entry Call Reply) → Type 0
+KeepsCalls {Call = Call} {Reply = Reply} admin log =
+    (k : ℕ) (one : Ended (Entry Call Reply)) → get_elem? (seats_retired admin) k ≡ some one → one.entries ≡ of_caller kind_of one.number log
+
 -- a session was run at three stations: they were opened from it, with one decider; at each the clients' scripts and the administrator's
 -- turns are those of the session; and the administrator's script explains the versions noticed
 pub record HasRun {D F P Q : Type 0} (decides : D → Decisions) (session : SessionParts) (chosen : List (ℕ × ℕ)) (stations : Stations D F P Q)

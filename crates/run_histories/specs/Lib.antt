@@ -1,3 +1,4 @@
 pub mod Changes
 pub mod Histories
 pub mod Retiring
+pub mod Audits

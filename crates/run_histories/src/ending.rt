@@ -3,7 +3,7 @@
 ghost use Rattle.std.specs.Prelude.{ℕ, List};
 ghost use Rattle.session_text.specs.declared.session.SessionParts.{SessionParts};
 ghost use Rattle.epoch_gate.specs.Known.{decider_of};
-ghost use Rattle.run_histories.specs.Histories.{MayEnd, HasRun, AreOfRun};
+ghost use Rattle.run_histories.specs.Histories.{MayEnd, HasRun, KeepsCalls, AreOfRun};
 
 use access_vectors::Decider;
 use client_script::Stations;
@@ -25,7 +25,7 @@ pub struct Closed<'d, D: Decider, F: Callback + Drop, P: Callback + Drop, Q: Cal
 }
 
 /// Ends the three stations, of which every seat is retired, and settles a change that is pending. Where a session was run there, the
-/// three histories are those of a threaded run of it.
+/// three histories are those of a threaded run of it. Each history has exactly the entries of each retired seat under its number.
 pub fn end_run<'d, D: Decider, F: Callback + Drop, P: Callback + Drop, Q: Callback + Drop>(
     stations: Stations<'d, D, F, P, Q>,
     files: Admin<CoreDocket<'d, FileCore<F>, D>, D>,
@@ -37,6 +37,9 @@ pub fn end_run<'d, D: Decider, F: Callback + Drop, P: Callback + Drop, Q: Callba
     requires ports { MayEnd stations.ports ports }
     ensures of_run { (session : SessionParts) (chosen : List (ℕ × ℕ)) → HasRun D.decides session chosen stations.entry files.entry processes.entry ports.entry
         → AreOfRun (D.decides (decider_of stations.entry.files)) session result.files.history result.processes.history result.ports.history }
+    ensures files { KeepsCalls files.entry result.files.history }
+    ensures processes { KeepsCalls processes.entry result.processes.history }
+    ensures ports { KeepsCalls ports.entry result.ports.history }
 {
     Closed {
         files: end(stations.files, files),

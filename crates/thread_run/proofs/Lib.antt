@@ -2,6 +2,9 @@ mod Lists
 mod Retirement
 mod Leading
 mod Offices
+mod Pens
 mod Outcome
+mod Logged
 mod Cores
+mod Policies
 mod Crossing

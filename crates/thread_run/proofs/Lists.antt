@@ -47,3 +47,10 @@ zip_all R P holds [] [] zip = λ k d below. let no : ⊥ = omega (arith, below) 
 zip_all R P holds [] (y ∷ ys) zip = absurd zip
 zip_all R P holds (x ∷ xs) [] zip = absurd zip
 zip_all R P holds (x ∷ xs) (y ∷ ys) zip = All-cons P y ys (holds x y zip.0) (zip_all R P holds xs ys zip.1)
+
+-- two lists whose items are related are so by a weaker relation
+pub zip_weaker : {X : Type 0} (R S : X → X → Type 0) → ((x y : X) → R x y → S x y) → (xs ys : List X) → AllZip R xs ys → AllZip S xs ys
+zip_weaker R S weaker [] [] zip = tt
+zip_weaker R S weaker [] (y ∷ ys) zip = absurd zip
+zip_weaker R S weaker (x ∷ xs) [] zip = absurd zip
+zip_weaker R S weaker (x ∷ xs) (y ∷ ys) zip = (weaker x y zip.0, zip_weaker R S weaker xs ys zip.1)

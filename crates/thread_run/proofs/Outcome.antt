@@ -1,5 +1,5 @@
 -- A session that was prepared was run.
-use Rattle.std.proofs.Common.{◌≡◌, ℕ, zero, suc, ◌<◌, Bool, true, false, List, [], ◌∷◌, map, length, Some, refl, sym, ap, subst, ◌∙◌, arith}
+use Rattle.std.proofs.Common.{◌≡◌, ℕ, zero, suc, ◌+◌, ◌<◌, Bool, true, false, List, [], ◌∷◌, map, length, Some, refl, sym, ap, subst, ◌∙◌, arith}
 use Rattle.std.specs.Prelude.{All, slice_get, is_ok, OnOk, Result, Ok, Err, None, Option}
 use Rattle.std.specs.Global.{Vec}
 use Rattle.std.specs.List.{AllZip, list_all}
@@ -25,29 +25,33 @@ use Rattle.admin_walk.specs.Moves.{forces, versions_of}
 use Rattle.run_histories.specs.Histories.{IsWalked}
 use Rattle.run_histories.specs.Retiring.{MayLeave}
 use Rattle.run_histories.proofs.Laws.{forces_admin}
+use Rattle.audit_queue.specs.Pens.{QueueId, Posted}
+use Rattle.client_acts.specs.declared.worker.Audit.{Audit}
 use Rattle.thread_run.specs.declared.clients.Slot.{Slot}
 use Rattle.station_start.specs.declared.started.Admins.{Admins}
 use Rattle.thread_run.specs.declared.prepared.Staff.{Staff}
 use Rattle.thread_run.specs.declared.prepared.Prepared.{Prepared}
-use Rattle.thread_run.specs.Workers.{client_of, MayWork, HasWorked}
+use Rattle.thread_run.specs.Workers.{client_of, MayWork, MayPost, HasWorked, HasPosted}
 use Rattle.thread_run.specs.Managers.{IsBefore, IsAfter, AreStations, AreBefore, AreAfter, AreWalked}
-use Rattle.thread_run.specs.Runs.{slots_of, IsReady, MayRun, IsPrepared, IsManned, AreManned, MayAllLeave, WasRun}
+use Rattle.thread_run.specs.Runs.{new_pen, slots_of, IsReady, MayRun, IsPrepared, IsManned, AreManned, MayAllLeave, WasRun}
 use Rattle.thread_run.proofs.Lists.{zip_at, zip_all, all_at}
 
 module _ {D : Type 0} where
   -- what stands in a place of the slots
-  slot_at : (seats : List (Seats D EachBits AllBits AllBits)) (scripts : List (Vec RunLine)) (k : ℕ) (slot : Slot D) → slice_get (slots_of seats scripts) k ≡ Some slot
-      → (slice_get seats k ≡ Some slot.seats) × (slice_get scripts k ≡ Some slot.lines)
-  slot_at [] scripts k slot is = let no : ⊥ = cc in absurd no
-  slot_at (s ∷ seats) [] k slot is = let no : ⊥ = cc in absurd no
-  slot_at (s ∷ seats) (l ∷ scripts) zero slot is = let here : record { seats = s; lines = l; ended = Ok tt } ≡ slot = cc in
-      (ap (λ (one : Slot D). Some one.seats) here, ap (λ (one : Slot D). Some one.lines) here)
-  slot_at (s ∷ seats) (l ∷ scripts) (suc k) slot is = slot_at seats scripts k slot is
+  pub slot_at : (queue : QueueId) (n : ℕ) (seats : List (Seats D EachBits AllBits AllBits)) (scripts : List (Vec RunLine)) (k : ℕ) (slot : Slot D) → slice_get (slots_of queue n seats scripts) k ≡ Some slot
+      → (slice_get seats k ≡ Some slot.seats) × (slice_get scripts k ≡ Some slot.lines) × (slot.pen ≡ new_pen queue (n + k))
+  slot_at queue n [] scripts k slot is = let no : ⊥ = cc in absurd no
+  slot_at queue n (s ∷ seats) [] k slot is = let no : ⊥ = cc in absurd no
+  slot_at queue n (s ∷ seats) (l ∷ scripts) zero slot is =
+      let here : record { seats = s; pen = new_pen queue n; lines = l; ended = Ok tt } ≡ slot = cc in
+      (ap (λ (one : Slot D). Some one.seats) here, ap (λ (one : Slot D). Some one.lines) here, sym (ap (λ (one : Slot D). one.pen) here) ∙ ap (new_pen queue) (omega arith))
+  slot_at queue n (s ∷ seats) (l ∷ scripts) (suc k) slot is =
+      let behind = slot_at queue (n + 1) seats scripts k slot is in (behind.0, behind.1, behind.2 ∙ ap (new_pen queue) (omega arith))
 
-  slots_length : (seats : List (Seats D EachBits AllBits AllBits)) (scripts : List (Vec RunLine)) → length scripts ≡ length seats → length (slots_of seats scripts) ≡ length seats
-  slots_length [] scripts same = refl
-  slots_length (s ∷ seats) [] same = let no : ⊥ = omega (arith, same) in absurd no
-  slots_length (s ∷ seats) (l ∷ scripts) same = ap suc (slots_length seats scripts (omega (arith, same)))
+  slots_length : (queue : QueueId) (n : ℕ) (seats : List (Seats D EachBits AllBits AllBits)) (scripts : List (Vec RunLine)) → length scripts ≡ length seats → length (slots_of queue n seats scripts) ≡ length seats
+  slots_length queue n [] scripts same = refl
+  slots_length queue n (s ∷ seats) [] same = let no : ⊥ = omega (arith, same) in absurd no
+  slots_length queue n (s ∷ seats) (l ∷ scripts) same = ap suc (slots_length queue (n + 1) seats scripts (omega (arith, same)))
 
   zip_length : (R : Slot D → Slot D → Type 0) (xs ys : List (Slot D)) → AllZip R xs ys → length ys ≡ length xs
   zip_length R [] [] zip = refl
@@ -70,10 +74,10 @@ pub ran_whole : {T E : Type 0} {P : Type 0} (said : Result T E) → is_ok said �
 ran_whole (Ok value) whole holds = holds
 ran_whole (Err fault) whole holds = let no : ⊥ = cc in absurd no
 
-module _ {D : Type 0} (decides : D → Decisions) (prepared : Prepared D) (may : MayRun decides prepared) where
-  ready_slot : (client : ℕ) (slot : Slot D) → slice_get (slots_of prepared.seats.items prepared.scripts.items) client ≡ Some slot
+module _ {D : Type 0} (decides : D → Decisions) (prepared : Prepared D) (may : MayRun decides prepared) (queue : QueueId) where
+  pub ready_slot : (client : ℕ) (slot : Slot D) → slice_get (slots_of queue 0 prepared.seats.items prepared.scripts.items) client ≡ Some slot
       → IsReady decides prepared.stations client slot.seats slot.lines.items
-  ready_slot client slot is = let at = slot_at prepared.seats.items prepared.scripts.items client slot is in may.each client slot.seats slot.lines at.0 at.1
+  ready_slot client slot is = let at = slot_at queue 0 prepared.seats.items prepared.scripts.items client slot is in may.each client slot.seats slot.lines at.0 at.1
 
   may_work : (client : ℕ) (slot : Slot D) → IsReady decides prepared.stations client slot.seats slot.lines.items → MayWork decides prepared.stations slot
   may_work client slot ready = record {
@@ -84,14 +88,37 @@ module _ {D : Type 0} (decides : D → Decisions) (prepared : Prepared D) (may :
     formed = subst (λ (n : ℕ). All (λ line. IsFormedFor decides prepared.stations n line.run) slot.lines.items) (sym ready.client_is.files) ready.formed;
   }
 
-  -- each client's worker may begin
-  pub all_may_work : All (MayWork decides prepared.stations) (slots_of prepared.seats.items prepared.scripts.items)
-  all_may_work = all_by_place (MayWork decides prepared.stations) (slots_of prepared.seats.items prepared.scripts.items) (λ client slot is. may_work client slot (ready_slot client slot is))
+  may_post : (client : ℕ) (slot : Slot D) → slot.pen ≡ new_pen queue client → IsReady decides prepared.stations client slot.seats slot.lines.items → MayPost queue slot
+  may_post client slot is ready = record {
+    queue_is = ap (λ (pen : Posted). pen.queue) is;
+    number_is = ap (λ (pen : Posted). pen.number) is ∙ sym ready.client_is.files;
+    none = ap (λ (pen : Posted). pen.lines) is;
+  }
 
-  module _ (slots : List (Slot D)) (worked : AllZip (HasWorked prepared.stations) (slots_of prepared.seats.items prepared.scripts.items) slots)
+  -- each client's worker may begin, and post
+  pub all_may_work : All (λ (slot : Slot D). MayWork decides prepared.stations slot × MayPost queue slot) (slots_of queue 0 prepared.seats.items prepared.scripts.items)
+  all_may_work = all_by_place (λ (slot : Slot D). MayWork decides prepared.stations slot × MayPost queue slot) (slots_of queue 0 prepared.seats.items prepared.scripts.items)
+      (λ client slot is.
+      let ready = ready_slot client slot is in
+      (may_work client slot ready, may_post client slot ((slot_at queue 0 prepared.seats.items prepared.scripts.items client slot is).2 ∙ ap (new_pen queue) (omega arith)) ready))
+
+  -- the clients' pens are the queue's yet
+  pub are_of_queue : (audit : Audit) (slots : List (Slot D)) → AllZip (λ was now. HasWorked prepared.stations was now × HasPosted audit was now) (slots_of queue 0 prepared.seats.items prepared.scripts.items) slots
+      → All (λ (slot : Slot D). slot.pen.queue ≡ queue) slots
+  are_of_queue audit slots worked = all_by_place (λ (slot : Slot D). slot.pen.queue ≡ queue) slots
+      (λ client slot here.
+      let before = zip_at (λ was now. HasWorked prepared.stations was now × HasPosted audit was now) (slots_of queue 0 prepared.seats.items prepared.scripts.items) slots client slot worked here in
+      let at = slot_at queue 0 prepared.seats.items prepared.scripts.items client before.0 before.1 in
+      before.2.1.queue_is ∙ ap (λ (pen : Posted). pen.queue) at.2)
+
+  -- there is a place for each client
+  pub all_slots : (slots : List (Slot D)) → AllZip (HasWorked prepared.stations) (slots_of queue 0 prepared.seats.items prepared.scripts.items) slots → length slots ≡ length prepared.seats.items
+  all_slots slots worked = zip_length (HasWorked prepared.stations) (slots_of queue 0 prepared.seats.items prepared.scripts.items) slots worked ∙ slots_length queue 0 prepared.seats.items prepared.scripts.items may.many
+
+  module _ (slots : List (Slot D)) (worked : AllZip (HasWorked prepared.stations) (slots_of queue 0 prepared.seats.items prepared.scripts.items) slots)
       (admins : Admins D) (after : AreAfter prepared.stations prepared.staff.admins admins) where
     many : length slots ≡ length prepared.seats.items
-    many = zip_length (HasWorked prepared.stations) (slots_of prepared.seats.items prepared.scripts.items) slots worked ∙ slots_length prepared.seats.items prepared.scripts.items may.many
+    many = zip_length (HasWorked prepared.stations) (slots_of queue 0 prepared.seats.items prepared.scripts.items) slots worked ∙ slots_length queue 0 prepared.seats.items prepared.scripts.items may.many
 
     pub all_may_leave : MayAllLeave prepared.stations slots
     all_may_leave = zip_all (HasWorked prepared.stations) (λ (slot : Slot D). MayLeave prepared.stations slot.seats)
@@ -99,7 +126,7 @@ module _ {D : Type 0} (decides : D → Decisions) (prepared : Prepared D) (may :
           files = record { gate = done.seated.files.0; out = no_pass now.seats.files.view.rights.pass done.given.files; idle = done.seated.files.1 };
           processes = record { gate = done.seated.processes.0; out = no_pass now.seats.processes.view.rights.pass done.given.processes; idle = done.seated.processes.1 };
           ports = record { gate = done.seated.ports.0; out = no_pass now.seats.ports.view.rights.pass done.given.ports; idle = done.seated.ports.1 };
-        }) (slots_of prepared.seats.items prepared.scripts.items) slots worked
+        }) (slots_of queue 0 prepared.seats.items prepared.scripts.items) slots worked
 
     manned : {E O : Type 0} (site : Site D O) (was now : SeatView E D O) → IsBefore (length prepared.seats.items) site was → IsAfter site was now → IsManned (length slots) site now
     manned site was now before then = record { gate = then.gate; idle = then.idle; made = then.made ∙ (before.made ∙ sym many); retired = then.retired ∙ before.retired }
@@ -122,13 +149,13 @@ module _ {D : Type 0} (decides : D → Decisions) (prepared : Prepared D) (may :
         (walked : AreWalked (decides prepared.staff.decider.now).versions prepared.staff.script.items admins) where
       ran_at : (client : ℕ) (slot : Slot D) → slice_get slots client ≡ Some slot → AreOf client (standings_of slot.seats) × HasRun client (script_of client session.lines) (standings_of slot.seats)
       ran_at client slot here =
-          let before = zip_at (HasWorked prepared.stations) (slots_of prepared.seats.items prepared.scripts.items) slots client slot worked here in
+          let before = zip_at (HasWorked prepared.stations) (slots_of queue 0 prepared.seats.items prepared.scripts.items) slots client slot worked here in
           let was = before.0 in
           let ready = ready_slot client before.0 before.1 in
           let number : client_of before.0 ≡ client = ready.client_is.files in
           let ended : is_ok slot.ended ≡ true = all_at (λ (slot : Slot D). is_ok slot.ended ≡ true) slots client slot (AllPass-from_list_all (λ (slot : Slot D). is_ok slot.ended) slots whole) here in
           let run : HasRun (client_of before.0) before.0.lines.items (standings_of slot.seats) = ran_whole slot.ended ended before.2.ran in
-          let script : before.0.lines.items ≡ script_of client session.lines = is.scripts client before.0.lines (slot_at prepared.seats.items prepared.scripts.items client before.0 before.1).1 in (
+          let script : before.0.lines.items ≡ script_of client session.lines = is.scripts client before.0.lines (slot_at queue 0 prepared.seats.items prepared.scripts.items client before.0 before.1).1 in (
             subst (λ (n : ℕ). AreOf n (standings_of slot.seats)) number before.2.client,
             subst (λ (n : ℕ). HasRun n (script_of client session.lines) (standings_of slot.seats)) number (subst (λ (l : List RunLine). HasRun (client_of before.0) l (standings_of slot.seats)) script run),
           )

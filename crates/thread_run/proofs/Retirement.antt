@@ -11,13 +11,15 @@ use Rattle.gate_rule.specs.declared.view.Ended.{Ended}
 use Rattle.gate_rule.specs.declared.view.Item.{Item}
 use Rattle.epoch_gate.specs.Seats.{SeatView, Site, IsOfGate}
 use Rattle.epoch_gate.specs.Known.{caller_number, own_entries, seats_made, seats_retired, turns_had}
+use Rattle.gate_rule.specs.History.{of_caller}
+use Rattle.managed_run.specs.Kinds.{kind_of}
 use Rattle.managed_run.specs.Administering.{turn_of}
 use Rattle.session_text.specs.declared.session.Run.{Run}
 use Rattle.session_text.specs.declared.session.SessionParts.{SessionParts}
 use Rattle.client_acts.specs.Acts.{Act}
 use Rattle.client_script.specs.Scripts.{script_of, file_act, process_act, port_act, IsWhole}
 use Rattle.client_script.specs.declared.stations.Stations.{Stations}
-use Rattle.run_histories.specs.Histories.{IsWalked, HasRunAt, MayEnd, HasRun}
+use Rattle.run_histories.specs.Histories.{IsWalked, HasRunAt, MayEnd, HasRun, KeepsCalls}
 use Rattle.run_histories.proofs.Retired.{IsRetiring, all_retired}
 use Rattle.thread_run.specs.declared.clients.Slot.{Slot}
 use Rattle.station_start.specs.declared.started.Admins.{Admins}
@@ -51,6 +53,14 @@ module _ {S Call Reply D O : Type 0} (seat_of : S → SeatView (Entry Call Reply
     out = done.made ∙ (manned.made ∙ (sym (map_length (λ seats. kept_of (seat_of seats)) all) ∙ sym (ap length (kept_are seat_of site (length all) all was now manned done))));
     idle = done.ticket ∙ manned.idle;
   }
+
+  -- a history that has each retired seat's entries has those of the seat in each place
+  pub calls_at : (log : List (Entry Call Reply)) → KeepsCalls now log → (client : ℕ) (seats : S) → slice_get all client ≡ Some seats
+      → own_entries (seat_of seats) ≡ of_caller kind_of (caller_number (seat_of seats)) log
+  calls_at log keeps client seats is =
+      keeps client (kept_of (seat_of seats))
+      (subst (λ (l : List (Ended (Entry Call Reply))). get_elem? l client ≡ some (kept_of (seat_of seats))) (sym (kept_are seat_of site (length all) all was now manned done))
+      (mapped_at (λ seats. kept_of (seat_of seats)) all client seats is))
 
   -- where the seats in each place are those of the client of that number, and its own entries are its whole script, a session was run there
   pub run_at : (act : ℕ → Run → List (Act Call)) (session : SessionParts) (chosen : List (ℕ × ℕ)) → length all ≡ length session.clients

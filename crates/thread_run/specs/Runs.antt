@@ -1,15 +1,25 @@
 -- A run of a session from its stations, and how it ends.
-use Rattle.std.specs.Prelude.{◌≡◌, ℕ, ◌<◌, true, false, List, [], ◌∷◌, ◌++◌, map, length, All, slice_get, Some, Ok, is_ok}
+use Rattle.std.specs.Prelude.{◌≡◌, ℕ, ◌<◌, ◌≤◌, ◌+◌, true, false, List, [], ◌∷◌, ◌++◌, map, length, All, slice_get, Some, Ok, is_ok}
 use Rattle.std.specs.Global.{Vec}
 use mathlib.Core.Option.{some}
 use lib.ListN.{get_elem?}
 use Rattle.access_vectors.specs.Decisions.{Decisions}
 use Rattle.retained_rights.specs.declared.callbacks.EachBits.{EachBits}
 use Rattle.retained_rights.specs.declared.callbacks.AllBits.{AllBits}
+use Rattle.manager_history.specs.declared.entry.Entry.{Entry}
+use Rattle.file_calls.specs.declared.call.FileCall.{FileCall}
+use Rattle.file_calls.specs.declared.call.FileReply.{FileReply}
+use Rattle.process_calls.specs.declared.call.ProcessCall.{ProcessCall}
+use Rattle.process_calls.specs.declared.call.ProcessReply.{ProcessReply}
+use Rattle.port_calls.specs.declared.call.PortCall.{PortCall}
+use Rattle.port_calls.specs.declared.call.PortReply.{PortReply}
+use Rattle.gate_rule.specs.History.{of_caller}
 use Rattle.gate_rule.specs.declared.view.Ended.{Ended}
 use Rattle.epoch_gate.specs.Seats.{SeatView, Site, IsOfGate}
 use Rattle.epoch_gate.specs.Known.{decider_of, caller_number, own_entries, seats_made, seats_retired, turns_had, IsIdle}
+use Rattle.managed_run.specs.Kinds.{kind_of}
 use Rattle.managed_run.specs.Administering.{turn_of}
+use Rattle.audit_queue.specs.Pens.{QueueId, Posted, Taken}
 use Rattle.session_text.specs.declared.session.RunLine.{RunLine}
 use Rattle.session_text.specs.declared.session.SessionParts.{SessionParts}
 use Rattle.admin_walk.specs.Explained.{Explains}
@@ -46,12 +56,20 @@ module _ {E D O : Type 0} where
     pub made : seats_made admin ≡ seats
     pub retired : seats_retired admin ≡ []
 
+-- a pen of a queue before it posted
+abbrev pub new_pen : QueueId → ℕ → Posted
+new_pen queue number = record { queue = queue; number = number; lines = [] }
+
 module _ {D : Type 0} where
-  -- the clients' places: by the number of the client its seats, and its script
-  abbrev pub slots_of : List (Seats D EachBits AllBits AllBits) → List (Vec RunLine) → List (Slot D)
-  slots_of [] scripts = []
-  slots_of (seats ∷ rest) [] = []
-  slots_of (seats ∷ rest) (script ∷ scripts) = record { seats = seats; lines = script; ended = Ok tt } ∷ slots_of rest scripts
+  -- the clients' places from number n on: by the number of the client its seats, its script, and a pen of that number
+  abbrev pub slots_of : QueueId → ℕ → List (Seats D EachBits AllBits AllBits) → List (Vec RunLine) → List (Slot D)
+  slots_of queue n [] scripts = []
+  slots_of queue n (seats ∷ rest) [] = []
+  slots_of queue n (seats ∷ rest) (script ∷ scripts) = record { seats = seats; pen = new_pen queue n; lines = script; ended = Ok tt } ∷ slots_of queue (n + 1) rest scripts
+
+  -- a taker that keeps what the pens of these places posted
+  abbrev pub with_pens : Taken → List (Slot D) → Taken
+  with_pens taker slots = record taker { kept = taker.kept ++ map (λ slot. record { pen = slot.pen.number; lines = slot.pen.lines }) slots }
 
   -- a client is ready: its seats are the stations' and have its number, it did nothing yet, and may enter more often than its script
   -- has lines; and each call of the script is well formed
@@ -62,9 +80,10 @@ module _ {D : Type 0} where
     pub room : HaveRoom (length script) (standings_of seats)
     pub formed : All (λ line. IsFormedFor decides stations client line.run) script
 
-  -- a session may be run: each client is ready, and the administrator's worker may begin
+  -- a session may be run: its clients are few and each is ready, and the administrator's worker may begin
   pub record MayRun (decides : D → Decisions) (prepared : Prepared D) : Type 0 where
     pub staff : MayBegin (length prepared.seats.items) prepared.stations prepared.staff
+    pub few : length prepared.seats.items ≤ 62
     pub many : length prepared.scripts.items ≡ length prepared.seats.items
     pub each : (client : ℕ) (seats : Seats D EachBits AllBits AllBits) (script : Vec RunLine) → slice_get prepared.seats.items client ≡ Some seats → slice_get prepared.scripts.items client ≡ Some script
         → IsReady decides prepared.stations client seats script.items
@@ -88,6 +107,12 @@ module _ {D : Type 0} where
     pub files : HasRetiredAll stations.files (map (λ slot. slot.seats.files) slots) was.files now.files
     pub processes : HasRetiredAll stations.processes (map (λ slot. slot.seats.processes) slots) was.processes now.processes
     pub ports : HasRetiredAll stations.ports (map (λ slot. slot.seats.ports) slots) was.ports now.ports
+
+  -- histories have, as the calls of each client, exactly its own entries
+  pub record HaveCalls (slots : List (Slot D)) (files : List (Entry FileCall FileReply)) (processes : List (Entry ProcessCall ProcessReply)) (ports : List (Entry PortCall PortReply)) : Type 0 where
+    pub files_are : (client : ℕ) (slot : Slot D) → slice_get slots client ≡ Some slot → own_entries slot.seats.files ≡ of_caller kind_of (caller_number slot.seats.files) files
+    pub processes_are : (client : ℕ) (slot : Slot D) → slice_get slots client ≡ Some slot → own_entries slot.seats.processes ≡ of_caller kind_of (caller_number slot.seats.processes) processes
+    pub ports_are : (client : ℕ) (slot : Slot D) → slice_get slots client ≡ Some slot → own_entries slot.seats.ports ≡ of_caller kind_of (caller_number slot.seats.ports) ports
 
   -- the administrators of stations whose clients, so many, are to leave
   pub record AreManned (seats : ℕ) (stations : Stations D EachBits AllBits AllBits) (admins : Admins D) : Type 0 where

@@ -1,5 +1,5 @@
 -- What the workers of a run begin with, and what they leave.
-use Rattle.std.specs.Prelude.{◌≡◌, ℕ, ◌+◌, ◌<◌, false, length, All, slice_get, OnOk}
+use Rattle.std.specs.Prelude.{◌≡◌, ℕ, ◌+◌, ◌<◌, false, [], length, All, slice_get, OnOk}
 use Rattle.access_vectors.specs.Decisions.{Decisions}
 use Rattle.access_vectors.specs.Phases.{number_of, is_pending}
 use Rattle.retained_rights.specs.declared.callbacks.EachBits.{EachBits}
@@ -9,7 +9,10 @@ use Rattle.change_protocol.specs.Changes.{AreBoth}
 use Rattle.admin_walk.specs.Walks.{own_lines}
 use Rattle.admin_walk.specs.Moves.{AreTold, IsExplained}
 use Rattle.client_script.specs.Clients.{AreOf, HaveRoom, HasRun, HoldNone, HaveNone, AreSeated, IsFormedFor, standings_of}
+use Rattle.client_script.specs.Audits.{RiseFrom, script_audit}
 use Rattle.client_script.specs.declared.stations.Stations.{Stations}
+use Rattle.client_acts.specs.declared.worker.Audit.{Audit}
+use Rattle.audit_queue.specs.Pens.{QueueId}
 use Rattle.thread_run.specs.declared.clients.Slot.{Slot}
 use Rattle.thread_run.specs.declared.administrator.Office.{Office}
 
@@ -34,6 +37,19 @@ module _ {D : Type 0} where
     pub client : AreOf (client_of was) (standings_of now.seats)
     pub given : HoldNone (standings_of now.seats)
     pub seated : AreSeated stations now.seats
+
+  -- a client's worker may post: its pen is the queue's, has the client's number, and has posted nothing
+  pub record MayPost (queue : QueueId) (slot : Slot D) : Type 0 where
+    pub queue_is : slot.pen.queue ≡ queue
+    pub number_is : slot.pen.number ≡ client_of slot
+    pub none : slot.pen.lines ≡ []
+
+  -- a client's worker has ended: its pen is the queue's and of the same number; and unless memory was wanted it has posted the audit
+  -- lines of its whole script, whose line numbers rise
+  pub record HasPosted (audit : Audit) (was now : Slot D) : Type 0 where
+    pub queue_is : now.pen.queue ≡ was.pen.queue
+    pub number_is : now.pen.number ≡ was.pen.number
+    pub lines : OnOk now.ended (RiseFrom 0 was.lines.items → now.pen.lines ≡ script_audit audit (client_of was) was.lines.items (standings_of now.seats))
 
 module _ {D M : Type 0} where
   -- the administrator's worker may begin: no change is pending, each manager tells its turns, and there is a policy number for each of its lines

@@ -1,4 +1,5 @@
-//! A session's run in threads: a worker for each client, the administrator's beside them, and the end of the three stations.
+//! A session's run in threads: a worker for each client, the administrator's beside them, the end of the three stations, and the
+//! audit lines that the workers posted.
 #![tactic(auto)]
 
 mod administrator;
@@ -9,5 +10,5 @@ mod prepared;
 mod run;
 mod slots;
 
-pub use prepared::{Prepared, Staff};
+pub use prepared::{Prepared, Ran, Staff};
 pub use run::run_on_threads;

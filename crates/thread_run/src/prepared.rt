@@ -1,6 +1,9 @@
-//! What a run is made of.
+//! What a run is made of, and what it leaves.
 
 use access_vectors::Decider;
+use audit_log::AuditLog;
+use retained_rights::{AllBits, EachBits};
+use run_histories::Closed;
 use session_text::RunLine;
 use station_start::{Admins, ClientSeats, ThreeStations};
 
@@ -22,4 +25,11 @@ pub struct Prepared<'d, D: Decider> {
     pub staff: Staff<'d, D>,
     pub seats: Vec<ClientSeats<'d, D>>,
     pub scripts: Vec<Vec<RunLine>>,
+}
+
+/// What a run leaves: the keepers with their histories, and the audit lines of its clients.
+#[derive(Drop)]
+pub struct Ran<'d, D: Decider> {
+    pub closed: Closed<'d, D, EachBits, AllBits, AllBits>,
+    pub log: AuditLog,
 }

@@ -1,24 +1,26 @@
 //! The run.
 
-ghost use Rattle.std.specs.Prelude.{◌≡◌, ℕ, All, IfOk, OnOk};
+ghost use Rattle.std.specs.Prelude.{◌≡◌, ℕ, length, All, IfOk, OnOk};
 ghost use Rattle.std.specs.List.{AllZip};
 ghost use Rattle.session_text.specs.declared.session.SessionParts.{SessionParts};
 ghost use Rattle.run_histories.specs.Histories.{AreOfRun};
-ghost use Rattle.thread_run.specs.Workers.{MayWork, HasWorked, MayAdminister, HasAdministered};
+ghost use Rattle.client_script.specs.Audits.{RiseFrom};
+ghost use Rattle.run_histories.specs.Audits.{IsLogOf};
+ghost use Rattle.thread_run.specs.Workers.{MayWork, MayPost, HasWorked, HasPosted, MayAdminister, HasAdministered};
 ghost use Rattle.thread_run.specs.Managers.{MayBegin, AreAfter, AreWalked, led_first};
 ghost use Rattle.thread_run.specs.Runs.{MayRun, IsPrepared};
 
 use crate::administrator::{Holds, Office};
 use crate::clients::{Hall, Slot};
-use crate::leaving::{close, have_all_run};
+use crate::leaving::{close, drained, have_all_run};
 use crate::managers::{HeldOne, apart, lead};
-use crate::prepared::{Prepared, Staff};
+use crate::prepared::{Prepared, Ran, Staff};
 use crate::slots::slots_of;
 use access_vectors::Decider;
+use audit_queue::AuditQueue;
+use client_acts::Audit;
 use flask_sid::Memory;
 use managed::Managed;
-use retained_rights::{AllBits, EachBits};
-use run_histories::Closed;
 use run_stops::Stops;
 use station_start::{Admins, ThreeStations};
 use std::alloc::Global;
@@ -74,9 +76,9 @@ fn run_together<
     slots: Vec<Slot<'d, D>>,
     office: Office<'d, D, M>,
 ) -> (Vec<Slot<'d, D>>, Office<'d, D, M>)
-    requires clients { All (MayWork D.decides hall.now.stations.now) slots.items }
+    requires clients { All (λ slot. MayWork D.decides hall.now.stations.now slot × MayPost hall.now.queue.now slot) slots.items }
     requires administrator { MayAdminister M.seen office }
-    ensures clients { AllZip (HasWorked hall.entry.now.stations.now) slots.entry.items result.0.items }
+    ensures clients { AllZip (λ was now. HasWorked hall.entry.now.stations.now was now × HasPosted hall.entry.now.audit.now was now) slots.entry.items result.0.items }
     ensures administrator { HasAdministered D.decides M.seen M.same office.entry result.1 }
 {
     let holds = Holds { stops: hall.stops };
@@ -95,9 +97,10 @@ fn run_workers<'d, R: Threads + Wait + Sync, D: Decider + Sync, G: Stops + Sync>
     slots: Vec<Slot<'d, D>>,
     staff: Staff<'d, D>,
 ) -> Result<Worked<'d, D>, Memory>
-    requires clients { All (MayWork D.decides hall.now.stations.now) slots.items }
+    requires clients { All (λ slot. MayWork D.decides hall.now.stations.now slot × MayPost hall.now.queue.now slot) slots.items }
     requires staff { (seats : ℕ) × MayBegin seats hall.now.stations.now staff }
-    ensures clients { IfOk result (λ worked. AllZip (HasWorked hall.entry.now.stations.now) slots.entry.items worked.slots.items) }
+    ensures clients { IfOk result (λ worked.
+        AllZip (λ was now. HasWorked hall.entry.now.stations.now was now × HasPosted hall.entry.now.audit.now was now) slots.entry.items worked.slots.items) }
     ensures admins { IfOk result (λ worked. AreAfter hall.entry.now.stations.now staff.entry.admins worked.admins) }
     ensures walked { IfOk result (λ worked. OnOk worked.ended
         (AreWalked (D.decides staff.entry.decider.now).versions staff.entry.script.items worked.admins)) }
@@ -115,17 +118,22 @@ fn run_workers<'d, R: Threads + Wait + Sync, D: Decider + Sync, G: Stops + Sync>
 }
 
 /// Runs a session: a worker for each client, and the administrator's beside them. All are joined; then every
-/// seat is retired and the three stations are ended, also where a worker wanted memory, and only then is that answered. The three
-/// histories are those of a threaded run of the session that was prepared.
-pub fn run_on_threads<'d, R: Threads + Wait + Sync, D: Decider + Sync, G: Stops + Sync>(
+/// seat and every pen is retired, the three stations are ended and the queue of audit lines is drained, also where a worker wanted
+/// memory, and only then is that answered. The three histories are those of a threaded run of the session that was prepared, and the
+/// log has their audit lines.
+pub fn run_on_threads<'d, 'g, R: Threads + Wait + Sync, D: Decider + Sync, G: Stops + Sync>(
     rt: &R,
     alloc: Global,
     prepared: Prepared<'d, D>,
-    stops: &G,
-) -> Result<Closed<'d, D, EachBits, AllBits, AllBits>, Memory>
+    audit: &'g Audit<'g>,
+    stops: &'g G,
+) -> Result<Ran<'d, D>, Memory>
     requires { MayRun D.decides prepared }
-    ensures { IfOk result (λ closed. (session : SessionParts) → IsPrepared session prepared.entry
-        → AreOfRun (D.decides prepared.entry.staff.decider.now) session closed.files.history closed.processes.history closed.ports.history) }
+    ensures of_run { IfOk result (λ ran. (session : SessionParts) → IsPrepared session prepared.entry
+        → AreOfRun (D.decides prepared.entry.staff.decider.now) session ran.closed.files.history ran.closed.processes.history ran.closed.ports.history) }
+    ensures log { IfOk result (λ ran. (session : SessionParts) → IsPrepared session prepared.entry → RiseFrom 0 session.lines
+        → IsLogOf audit.entry.now.policy.now audit.entry.now.contexts.now ran.closed.files.history ran.closed.processes.history ran.closed.ports.history
+        audit.entry.now.printed (length session.clients) session.lines ran.log) }
 {
     let Prepared {
         stations,
@@ -133,9 +141,13 @@ pub fn run_on_threads<'d, R: Threads + Wait + Sync, D: Decider + Sync, G: Stops 
         seats,
         scripts,
     } = prepared;
-    let slots = slots_of(alloc, seats, scripts)?;
+    let clients = seats.len() as u8;
+    let (queue, mut taker) = AuditQueue::new(alloc, clients)?;
+    let slots = slots_of(alloc, &queue, &mut taker, seats, scripts)?;
     let hall = Hall {
         stations: &stations,
+        queue: &queue,
+        audit,
         stops,
     };
     let worked = run_workers(rt, alloc, &hall, slots, staff)?;
@@ -145,7 +157,12 @@ pub fn run_on_threads<'d, R: Threads + Wait + Sync, D: Decider + Sync, G: Stops 
         ended,
     } = worked;
     let whole = have_all_run(slots.as_slice());
-    let closed = close(stations, slots, admins);
+    let closed = close(stations, &queue, slots, admins, &mut taker);
+    let log = drained(rt, alloc, queue, taker, clients);
     ended?;
-    if whole { Ok(closed) } else { Err(Memory) }
+    if whole {
+        Ok(Ran { closed, log: log? })
+    } else {
+        Err(Memory)
+    }
 }

@@ -115,6 +115,7 @@ module _ {D : Type 0} (decides : D → Decisions) (plan : Plan) (limits : Limits
         room = rw (most_is, script_is, split.admin) (omega (arith, own_few (admin_script plan.lines.items), kept_few is_of_admin plan.lines.items, most));
         last = rw most_is last;
       };
+      few = subst (λ (n : ℕ). n ≤ 62) (sym seated.length_is) may.few;
       many = split.count ∙ sym seated.length_is;
       each = ready_at;
     }

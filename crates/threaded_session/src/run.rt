@@ -1,24 +1,25 @@
 //! The run.
 
-ghost use Rattle.std.specs.Prelude.{◌≡◌, ◌+◌, ◌<◌, ◌≤◌, None, IfOk};
+ghost use Rattle.std.specs.Prelude.{◌≡◌, ◌+◌, ◌<◌, ◌≤◌, length, None, IfOk};
 ghost use Rattle.session_text.specs.declared.session.SessionParts.{SessionParts};
 ghost use Rattle.epoch_gate.specs.Opening.{refusal};
+ghost use Rattle.client_script.specs.Audits.{RiseFrom};
 ghost use Rattle.run_histories.specs.Histories.{AreOfRun};
+ghost use Rattle.run_histories.specs.Audits.{IsLogOf};
 ghost use Rattle.thread_run.specs.Runs as runs;
 ghost use Rattle.threaded_session.specs.Plans.{MayRun, IsPlanOf};
 
 use crate::plan::Plan;
 use access_vectors::Decider;
+use client_acts::Audit;
 use flask_sid::Memory;
-use retained_rights::{AllBits, EachBits};
-use run_histories::Closed;
 use run_scripts::{Scripts, split};
 use run_stops::Stops;
 use station_start::{Limits, Started, seat_all, start};
 use std::alloc::Global;
 use std::sync::Wait;
 use std::thread::Threads;
-use thread_run::{Prepared, Staff, run_on_threads};
+use thread_run::{Prepared, Ran, Staff, run_on_threads};
 
 /// The last policy number that may be made.
 const MOST: u32 = 1_048_575;
@@ -78,18 +79,22 @@ fn prepare<'d, D: Decider>(
 }
 
 /// Runs a session: a worker for each client, and the administrator's beside them. The three histories are
-/// those of a threaded run of the session.
-pub fn run_plan<'d, R: Threads + Wait + Sync, D: Decider + Sync, G: Stops + Sync>(
+/// those of a threaded run of the session, and the log has their audit lines.
+pub fn run_plan<'d, 'g, R: Threads + Wait + Sync, D: Decider + Sync, G: Stops + Sync>(
     rt: &R,
     alloc: Global,
     decider: &'d D,
     plan: Plan,
-    stops: &G,
-) -> Result<Closed<'d, D, EachBits, AllBits, AllBits>, Memory>
+    audit: &'g Audit<'g>,
+    stops: &'g G,
+) -> Result<Ran<'d, D>, Memory>
     requires { MayRun (D.decides decider.now) plan }
-    ensures { IfOk result (λ closed. (session : SessionParts) → IsPlanOf session plan
-        → AreOfRun (D.decides decider.now) session closed.files.history closed.processes.history closed.ports.history) }
+    ensures of_run { IfOk result (λ ran. (session : SessionParts) → IsPlanOf session plan
+        → AreOfRun (D.decides decider.now) session ran.closed.files.history ran.closed.processes.history ran.closed.ports.history) }
+    ensures log { IfOk result (λ ran. (session : SessionParts) → IsPlanOf session plan → RiseFrom 0 session.lines
+        → IsLogOf audit.now.policy.now audit.now.contexts.now ran.closed.files.history ran.closed.processes.history ran.closed.ports.history
+        audit.now.printed (length session.clients) session.lines ran.log) }
 {
     let prepared = prepare(alloc, decider, plan)?;
-    run_on_threads(rt, alloc, prepared, stops)
+    run_on_threads(rt, alloc, prepared, audit, stops)
 }

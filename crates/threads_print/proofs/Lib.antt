@@ -1,4 +1,2 @@
 pub mod Parts
-pub mod Sorting
-pub mod Marked
 pub mod Logged

@@ -1,6 +1,6 @@
 -- What a threaded run prints: the three histories, the audit lines, and the summary.
-use Rattle.std.specs.Prelude.{◌≡◌, ℕ, ◌+◌, ◌==◌, Bool, true, false, ◌&&◌, List, [], ◌∷◌, ◌++◌, codes, decimal, if◌then◌else◌}
-use Rattle.std.specs.List.{filter, flat_map}
+use Rattle.std.specs.Prelude.{◌≡◌, ℕ, ◌+◌, List, [], ◌∷◌, ◌++◌, codes, decimal, if◌then◌else◌}
+use Rattle.std.specs.List.{flat_map}
 use Rattle.flask_sid.specs.declared.context.ContextOf.{ContextOf}
 use Rattle.access_vectors.specs.Decisions.{Decisions}
 use Rattle.text_print.specs.Printed.{ended}
@@ -16,7 +16,8 @@ use Rattle.session_forms.specs.declared.run_forms.Manager.TheVariants as manager
 use Rattle.session_text.specs.declared.session.ClientLine.{ClientLine}
 use Rattle.session_text.specs.declared.session.RunLine.{RunLine}
 use Rattle.session_text.specs.declared.session.SessionParts.{SessionParts}
-use Rattle.audit_log.specs.Audited.{lines_of}
+use Rattle.audit_log.specs.Audited.{audited_in}
+use Rattle.client_script.specs.Audits.{audit_of}
 use Rattle.audit_log.specs.Texts.{line_text}
 use Rattle.audit_log.specs.declared.audited.AuditLine.{AuditLine}
 use Rattle.answer_text.specs.Replies.{file_words, process_words, port_words, is_file_denial, is_process_denial, is_port_denial}
@@ -25,19 +26,6 @@ use Rattle.history_text.specs.Counting.{counts_of}
 use Rattle.history_text.specs.declared.counts.Counts.{Counts}
 use Rattle.run_histories.specs.Changes.{changes_in}
 use Rattle.run_histories.specs.Histories.{AreOfRun}
-
--- an audit line is of the call of this client with this mark
-abbrev pub is_of_call : ℕ → ℕ → AuditLine → Bool
-is_of_call client mark line = (line.client == client) && (line.mark == mark)
-
--- the audit lines of a history, in its order
-abbrev pub audited_in : {Call Reply : Type 0} → PolicyParts → List (ContextOf (List ℕ)) → List (Entry Call Reply) → List AuditLine
-audited_in policy contexts log = flat_map (lines_of policy contexts) log
-
--- a client's audit lines out of those of all histories, in the order of its script: those of the call of each line, in the order in
--- which it asked
-abbrev pub audit_of : ℕ → List RunLine → List AuditLine → List AuditLine
-audit_of client lines all = flat_map (λ line. filter (is_of_call client line.line) all) lines
 
 -- the audit lines of clients from number n on, client by client
 abbrev pub audit_text : List (ContextOf (List ℕ)) → List RunLine → List AuditLine → ℕ → List ClientLine → List ℕ

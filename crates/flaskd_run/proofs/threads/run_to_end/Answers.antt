@@ -4,7 +4,7 @@ use Rattle.session_text.specs.declared.session.SessionParts.{SessionParts}
 use Rattle.session_text.proofs.SessionLemmas.{few_clients}
 use Rattle.session_managers.specs.declared.opening.Openings.{Openings}
 use Rattle.threaded_session.specs.declared.plan.Plan.{Plan}
-use Rattle.flaskd_run.proofs.OpenedLemmas.{plan_may, plan_of}
+use Rattle.flaskd_run.proofs.OpenedLemmas.{plan_may, plan_of, session_rises, log_by}
 use Rattle.flaskd_run.proofs.threads.run_to_end.Goals as goal
 
 -- what the managers are opened with, by the clients
@@ -24,13 +24,21 @@ run_plan-requires-after_bounds g c κs within =
     (c.in_ok-openings_of.ensures ∙ ap (opened_by c.args.session) c.as_slice.ensures) c.len.ensures c.into_vec.ensures c.requires.session c.requires.openings
     (rw (← c.into_vec.ensures) (omega (arith, c.into_vec.result.small))) c.requires.known
 
-pub returns : goal.returns
-returns g c =
+pub returns-clause-ended : goal.returns-clause-ended
+returns-clause-ended g c =
     let plan : Plan = record { openings = c.in_ok-openings_of.field-0; clients = c.len.result; lines = c.into_vec.result } in
     record {
       policy_is = refl;
       clients_are = refl;
       audit_is = refl;
-      of_run = c.in_ok-closed.ensures c.args.session
+      of_run = c.in_ok-closed.ensures.of_run c.args.session
           (plan_of c.args.session plan (c.in_ok-openings_of.ensures ∙ ap (opened_by c.args.session) c.as_slice.ensures) c.len.ensures c.into_vec.ensures);
     }
+
+pub returns-clause-log : goal.returns-clause-log
+returns-clause-log g c =
+    let plan : Plan = record { openings = c.in_ok-openings_of.field-0; clients = c.len.result; lines = c.into_vec.result } in
+    log_by c.args.session c.parts.result.now c.args.contexts.now _ _ _ _ c.parts.ensures.parts
+    (c.in_ok-closed.ensures.log c.args.session
+    (plan_of c.args.session plan (c.in_ok-openings_of.ensures ∙ ap (opened_by c.args.session) c.as_slice.ensures) c.len.ensures c.into_vec.ensures)
+    (session_rises c.args.session c.requires.session))

@@ -1,4 +1,4 @@
-use Rattle.std.proofs.Common.{List, ℕ, subst}
+use Rattle.std.proofs.Common.{List, ℕ, length, subst, sym, ap, ◌∙◌}
 use Rattle.std.specs.Prelude.{OnOk, OnErr}
 use Rattle.flask_io.specs.Streams.{Adds}
 use Rattle.flask_sid.specs.declared.context.ContextOf.{ContextOf}
@@ -25,15 +25,17 @@ run_to_end-requires-clause-known g c κs within =
 pub write_ended-requires : goal.write_ended-requires
 write_ended-requires g c =
     let kept = rw (← c.into_parts.ensures.value) at c.into_parts.ensures.kept in
-    record { few = rw c.in_ok-ended.ensures.clients_are (few_clients c.into_parts.result kept) }
+    record {
+      few = rw c.in_ok-ended.ensures.ended.clients_are (few_clients c.into_parts.result kept);
+      log = c.in_ok-ended.ensures.log.count ∙ sym (ap length c.in_ok-ended.ensures.ended.clients_are);
+    }
 
 pub returns-clause-writes : goal.returns-clause-writes
 returns-clause-writes g c =
-    let kept = rw (← c.into_parts.ensures.value) at c.into_parts.ensures.kept in
     let d = decides_of c.args.catalogue.now in
     threads_writes c.write_ended.result c.args.session c.into_parts.result (sids_of c.args.catalogue.now) d c.in_ok-ended.ended
-    (g.K.Sink.written c.args.sink.now) (g.K.Sink.written c.write_ended.new.sink) c.into_parts.ensures.value c.requires.decides c.in_ok-ended.ensures
+    (g.K.Sink.written c.args.sink.now) (g.K.Sink.written c.write_ended.new.sink) c.into_parts.ensures.value c.requires.decides c.in_ok-ended.ensures.ended
     (subst (λ (contexts : List (ContextOf (List ℕ))). OnOk c.write_ended.result (Adds (g.K.Sink.written c.args.sink.now) (g.K.Sink.written c.write_ended.new.sink) (text_of contexts c.into_parts.result c.in_ok-ended.ended)))
-    c.sids.ensures (c.write_ended.ensures.ok d c.into_parts.result kept c.in_ok-ended.ensures))
+    c.sids-contexts.ensures (c.write_ended.ensures.ok d c.into_parts.result c.in_ok-ended.ensures.ended c.in_ok-ended.ensures.log))
     (subst (λ (contexts : List (ContextOf (List ℕ))). OnErr c.write_ended.result (AddsFront (g.K.Sink.written c.args.sink.now) (g.K.Sink.written c.write_ended.new.sink) (text_of contexts c.into_parts.result c.in_ok-ended.ended)))
-    c.sids.ensures (c.write_ended.ensures.err d c.into_parts.result kept c.in_ok-ended.ensures))
+    c.sids-contexts.ensures (c.write_ended.ensures.err d c.into_parts.result c.in_ok-ended.ensures.ended c.in_ok-ended.ensures.log))

@@ -32,7 +32,7 @@ returns-in_err-write_audited-clause-err g c = λ d session run.
     (AddsFront (g.K.Sink.written c.args.sink.now) (g.K.Sink.written c.write_audited.new.sink) (run_text files processes ports contexts session))
     (cut_second (g.K.Sink.written c.args.sink.now) (g.K.Sink.written c.write_histories.new.sink) (g.K.Sink.written c.write_audited.new.sink)
     (histories_text files processes ports contexts session.clients) (run_audit files processes ports contexts session) (ended (summary_words (counts_of_run files processes ports))) first
-    (c.in_err-write_audited.ensures.err d session run))
+    (c.in_err-write_audited.ensures.err d session files processes ports run))
 
 pub returns-clause-ok : goal.returns-clause-ok
 returns-clause-ok g c = λ d session run.
@@ -45,7 +45,7 @@ returns-clause-ok g c = λ d session run.
     on_ok c.write_summary.result _ (Adds (g.K.Sink.written c.args.sink.now) (g.K.Sink.written c.write_summary.new.sink) (run_text files processes ports contexts session))
     (λ last. all_three (g.K.Sink.written c.args.sink.now) (g.K.Sink.written c.write_histories.new.sink) (g.K.Sink.written c.write_audited.new.sink) (g.K.Sink.written c.write_summary.new.sink)
     (histories_text files processes ports contexts session.clients) (run_audit files processes ports contexts session) (ended (summary_words (counts_of_run files processes ports))) first
-    (c.in_ok-write_audited.ensures.ok d session run) last) (c.write_summary.ensures.ok d session run.of_run)
+    (c.in_ok-write_audited.ensures.ok d session files processes ports run) last) (c.write_summary.ensures.ok d session run.of_run)
 
 pub returns-clause-err : goal.returns-clause-err
 returns-clause-err g c = λ d session run.
@@ -58,4 +58,4 @@ returns-clause-err g c = λ d session run.
     on_err c.write_summary.result _ (AddsFront (g.K.Sink.written c.args.sink.now) (g.K.Sink.written c.write_summary.new.sink) (run_text files processes ports contexts session))
     (λ cut. cut_third (g.K.Sink.written c.args.sink.now) (g.K.Sink.written c.write_histories.new.sink) (g.K.Sink.written c.write_audited.new.sink) (g.K.Sink.written c.write_summary.new.sink)
     (histories_text files processes ports contexts session.clients) (run_audit files processes ports contexts session) (ended (summary_words (counts_of_run files processes ports))) first
-    (c.in_ok-write_audited.ensures.ok d session run) cut) (c.write_summary.ensures.err d session run.of_run)
+    (c.in_ok-write_audited.ensures.ok d session files processes ports run) cut) (c.write_summary.ensures.err d session run.of_run)

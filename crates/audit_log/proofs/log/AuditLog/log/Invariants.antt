@@ -1,4 +1,4 @@
-use Rattle.std.proofs.Common.{◌≡◌, length, take}
+use Rattle.std.proofs.Common.{take}
 use Rattle.audit_log.specs.Audited
 use Rattle.audit_log.specs.Logs
 use Rattle.audit_log.proofs.log.AuditLog.log.Given as goal
