@@ -1,5 +1,6 @@
 //! The same work as the proved program of this folder, as a Rust programmer writes it: a gate word and two leave counters, two
-//! ticket words, 512 cache rows in one table, and a boxed board with its history that the holder of the turn takes out.
+//! ticket words, 512 cache rows in one table, and a boxed manager with its history that the holder of the turn takes out. The manager is
+//! a board, or files of which the one file is opened by its name and read.
 //!
 //! `plain_stations WORK ROUNDS` prints the nanoseconds of a processor, and a sum that tells the work was done.
 use std::cell::{Cell, UnsafeCell};
@@ -44,8 +45,16 @@ enum Reply {
     Refused,
 }
 
-enum Entry {
-    Op { _caller: u8, _mark: u32, _call: Call, _number: u32, _asked: Vec<Asked>, _reply: Reply },
+enum Entry<M: Manager> {
+    Op { _caller: u8, _mark: u32, _call: M::Call, _number: u32, _asked: Vec<Asked>, _reply: M::Reply },
+}
+
+/// What lies at a station.
+trait Manager {
+    type Call;
+    type Reply: Clone;
+
+    fn call(&mut self, caller: usize, call: &Self::Call, number: u32, ask: &mut dyn FnMut(u16, u16) -> u16, asked: &mut Vec<Asked>) -> Self::Reply;
 }
 
 struct Board {
@@ -90,32 +99,132 @@ impl Board {
         Reply::Done
     }
 
-    fn call(&mut self, caller: usize, call: Call, number: u32, ask: &mut dyn FnMut(u16, u16) -> u16, asked: &mut Vec<Asked>) -> Reply {
-        match call {
+}
+
+impl Manager for Board {
+    type Call = Call;
+    type Reply = Reply;
+
+    fn call(&mut self, caller: usize, call: &Call, number: u32, ask: &mut dyn FnMut(u16, u16) -> u16, asked: &mut Vec<Asked>) -> Reply {
+        match *call {
             Call::Open { slot, mode } => self.open(caller, slot, mode, number, ask, asked),
             Call::Read { slot } => self.read(caller, slot, number, ask, asked),
         }
     }
 }
 
-/// A board with its history.
-struct Keeper {
-    board: Board,
-    history: Vec<Entry>,
+fn board() -> Board {
+    Board { posted: 0, clients: vec![LABEL; CLIENTS], slots: vec![None; 64 * CLIENTS] }
 }
 
-fn keeper() -> Keeper {
-    let board = Board { posted: 0, clients: vec![LABEL; CLIENTS], slots: vec![None; 64 * CLIENTS] };
-    Keeper { board, history: Vec::new() }
+enum FileCall {
+    Open { slot: usize, name: Vec<u8>, mode: u16 },
+    Read { slot: usize, offset: usize, length: usize },
 }
 
-struct Station {
+#[derive(Clone)]
+enum FileReply {
+    Done,
+    Bytes(Vec<u8>),
+    Denied,
+    Refused,
+}
+
+struct File {
+    name: Vec<u8>,
+    label: u16,
+    bytes: Vec<u8>,
+}
+
+/// Files in one directory, and the slots in which they are open.
+struct Files {
+    clients: Vec<u16>,
+    label: u16,
+    nodes: Vec<File>,
+    slots: Vec<Option<(usize, Slot)>>,
+}
+
+impl Files {
+    fn open(&mut self, caller: usize, slot: usize, name: &[u8], mode: u16, number: u32, ask: &mut dyn FnMut(u16, u16) -> u16, asked: &mut Vec<Asked>) -> FileReply {
+        let place = 64 * caller + slot;
+        if self.slots[place].is_some() {
+            return FileReply::Refused;
+        }
+        let s = self.clients[caller];
+        let may_search = ask(s, self.label) >> 1 & 1 == 1;
+        asked.push(Asked { _s: s, _t: self.label, _class: 1, _index: 1, _yes: may_search });
+        if !may_search {
+            return FileReply::Denied;
+        }
+        let Some(node) = self.nodes.iter().position(|file| file.name == name) else {
+            return FileReply::Refused;
+        };
+        let t = self.nodes[node].label;
+        for index in 0..3 {
+            if mode >> index & 1 == 1 {
+                let yes = ask(s, t) >> index & 1 == 1;
+                asked.push(Asked { _s: s, _t: t, _class: 0, _index: index, _yes: yes });
+                if !yes {
+                    return FileReply::Denied;
+                }
+            }
+        }
+        let bits = mode & ask(s, t);
+        self.slots[place] = Some((node, Slot { mode, bits, follows: number }));
+        FileReply::Done
+    }
+
+    fn read(&mut self, caller: usize, slot: usize, from: usize, length: usize, number: u32, ask: &mut dyn FnMut(u16, u16) -> u16, asked: &mut Vec<Asked>) -> FileReply {
+        let Some((node, held)) = self.slots[64 * caller + slot] else {
+            return FileReply::Refused;
+        };
+        if held.mode & 1 == 0 {
+            return FileReply::Refused;
+        }
+        let s = self.clients[caller];
+        let file = &self.nodes[node];
+        let bits = if held.follows == number { held.bits } else { ask(s, file.label) };
+        let yes = bits & 1 == 1;
+        asked.push(Asked { _s: s, _t: file.label, _class: 0, _index: 0, _yes: yes });
+        if !yes {
+            return FileReply::Denied;
+        }
+        let start = from.min(file.bytes.len());
+        let end = (start + length).min(file.bytes.len());
+        FileReply::Bytes(file.bytes[start..end].to_vec())
+    }
+}
+
+impl Manager for Files {
+    type Call = FileCall;
+    type Reply = FileReply;
+
+    fn call(&mut self, caller: usize, call: &FileCall, number: u32, ask: &mut dyn FnMut(u16, u16) -> u16, asked: &mut Vec<Asked>) -> FileReply {
+        match call {
+            FileCall::Open { slot, name, mode } => self.open(caller, *slot, name, *mode, number, ask, asked),
+            FileCall::Read { slot, offset, length } => self.read(caller, *slot, *offset, *length, number, ask, asked),
+        }
+    }
+}
+
+fn files() -> Files {
+    let file = File { name: b"motd".to_vec(), label: 3, bytes: b"dawn".to_vec() };
+    Files { clients: vec![LABEL], label: 2, nodes: vec![file], slots: vec![None; 64] }
+}
+
+/// A manager with its history.
+struct Keeper<M: Manager> {
+    manager: M,
+    history: Vec<Entry<M>>,
+}
+
+struct Station<M: Manager> {
     words: Box<[AtomicU64]>,
-    slot: UnsafeCell<Option<Box<Keeper>>>,
+    slot: UnsafeCell<Option<Box<Keeper<M>>>>,
 }
 
 // The slot is touched by the holder of the turn alone.
-unsafe impl Sync for Station {}
+unsafe impl<M: Manager> Sync for Station<M> {}
 
 struct Seat {
     number: usize,
@@ -151,9 +260,10 @@ fn row_place(s: u16, t: u16, class: u8) -> usize {
     (31 * usize::from(s) + 7 * usize::from(t) + usize::from(class)) % 512
 }
 
-impl Station {
-    fn new() -> Station {
-        Station { words: (0..517).map(|_| AtomicU64::new(0)).collect(), slot: UnsafeCell::new(Some(Box::new(keeper()))) }
+impl<M: Manager> Station<M> {
+    fn new(manager: M) -> Station<M> {
+        let keeper = Keeper { manager, history: Vec::new() };
+        Station { words: (0..517).map(|_| AtomicU64::new(0)).collect(), slot: UnsafeCell::new(Some(Box::new(keeper))) }
     }
 
     fn enter(&self, seat: &mut Seat) {
@@ -184,7 +294,7 @@ impl Station {
         vector
     }
 
-    fn take(&self) -> Box<Keeper> {
+    fn take(&self) -> Box<Keeper<M>> {
         let ticket = self.words[3].fetch_add(1, SeqCst);
         let backoff = Backoff { step: Cell::new(0) };
         while self.words[4].load(SeqCst) != ticket {
@@ -194,18 +304,18 @@ impl Station {
         slot.take().unwrap()
     }
 
-    fn give(&self, value: Box<Keeper>) {
+    fn give(&self, value: Box<Keeper<M>>) {
         let slot = unsafe { &mut *self.slot.get() };
         *slot = Some(value);
         self.words[4].fetch_add(1, SeqCst);
     }
 
-    fn call(&self, seat: &Seat, mark: u32, call: Call) -> Option<Reply> {
+    fn call(&self, seat: &Seat, mark: u32, call: M::Call) -> Option<M::Reply> {
         let pass = seat.pass?;
         let mut keeper = self.take();
         let mut asked = Vec::new();
-        let reply = keeper.board.call(seat.number, call, pass.0, &mut |s, t| self.check(pass, s, t, 0), &mut asked);
-        keeper.history.push(Entry::Op { _caller: seat.number as u8, _mark: mark, _call: call, _number: pass.0, _asked: asked, _reply: reply });
+        let reply = keeper.manager.call(seat.number, &call, pass.0, &mut |s, t| self.check(pass, s, t, 0), &mut asked);
+        keeper.history.push(Entry::Op { _caller: seat.number as u8, _mark: mark, _call: call, _number: pass.0, _asked: asked, _reply: reply.clone() });
         self.give(keeper);
         Some(reply)
     }
@@ -240,27 +350,27 @@ fn seat(number: usize) -> Seat {
     Seat { number, quota: 1 << 29, pass: None }
 }
 
-fn prepared(station: &Station, seat: &mut Seat) {
+fn prepared(station: &Station<Board>, seat: &mut Seat) {
     station.enter(seat);
     station.call(seat, 0, Call::Open { slot: 0, mode: 3 });
 }
 
 fn core(rounds: u32) -> (u64, u64) {
-    let mut board = keeper().board;
+    let mut board = board();
     let mut asked = Vec::new();
-    board.call(0, Call::Open { slot: 0, mode: 3 }, 0, &mut |s, t| decided(0, s, t), &mut asked);
+    board.call(0, &Call::Open { slot: 0, mode: 3 }, 0, &mut |s, t| decided(0, s, t), &mut asked);
     let before = thread_time();
     let mut sum = 0u64;
     for _ in 0..rounds {
         let mut asked = Vec::new();
-        sum += sum_of(Some(hint::black_box(&mut board).call(0, Call::Read { slot: 0 }, 0, &mut |s, t| decided(0, s, t), &mut asked)));
+        sum += sum_of(Some(hint::black_box(&mut board).call(0, &Call::Read { slot: 0 }, 0, &mut |s, t| decided(0, s, t), &mut asked)));
         hint::black_box(&asked);
     }
     (thread_time() - before, sum)
 }
 
 fn one(work: &str, rounds: u32) -> (u64, u64) {
-    let station = Station::new();
+    let station = Station::new(board());
     let mut seat = seat(0);
     prepared(&station, &mut seat);
     let read = Call::Read { slot: 0 };
@@ -287,12 +397,41 @@ fn one(work: &str, rounds: u32) -> (u64, u64) {
     (thread_time() - before, sum)
 }
 
+fn bytes_of(reply: &FileReply) -> u64 {
+    match reply {
+        FileReply::Bytes(bytes) => bytes.len() as u64,
+        _ => 0,
+    }
+}
+
+fn file_open() -> FileCall {
+    FileCall::Open { slot: 0, name: b"motd".to_vec(), mode: 1 }
+}
+
+fn file(rounds: u32) -> (u64, u64) {
+    let station = Station::new(files());
+    let mut seat = seat(0);
+    station.enter(&mut seat);
+    station.call(&seat, 0, file_open());
+    let before = thread_time();
+    let mut sum = 0u64;
+    for _ in 0..rounds {
+        let reply = station.call(&seat, 0, FileCall::Read { slot: 0, offset: 0, length: 16 });
+        sum += reply.map_or(0, |reply| bytes_of(&reply));
+    }
+    (thread_time() - before, sum)
+}
+
 fn main() {
     let words: Vec<String> = env::args().skip(1).collect();
     let [work, rounds] = words.as_slice() else {
         return;
     };
     let rounds: u32 = rounds.parse().unwrap();
-    let (took, sum) = if work == "core" { core(rounds) } else { one(work, rounds) };
+    let (took, sum) = match work.as_str() {
+        "core" => core(rounds),
+        "file" => file(rounds),
+        _ => one(work, rounds),
+    };
     println!("{took} {sum}");
 }
