@@ -3,4 +3,4 @@
 
 mod words;
 
-pub use words::{AskWords, Command, DiffWords, Request, WhoWords, program, request_of};
+pub use words::{AskWords, Command, DiffWords, Request, WhoWords, WhyWords, program, request_of};

@@ -34,6 +34,12 @@ pub struct DiffWords<'w> {
     pub after: &'w str,
 }
 
+/// The words of `why`.
+#[derive(Clone, Copy, Debug)]
+pub struct WhyWords<'w> {
+    pub line: &'w str,
+}
+
 /// What is asked of a text.
 #[derive(Clone, Copy, Debug)]
 pub enum Command<'w> {
@@ -43,6 +49,10 @@ pub enum Command<'w> {
     Who(WhoWords<'w>),
     /// Where two versions differ.
     Diff(DiffWords<'w>),
+    /// Why a line of a session was answered as it was.
+    Why(WhyWords<'w>),
+    /// The lines of a session with their answers.
+    Show,
     /// Whether the text is well formed.
     Check,
 }
@@ -67,6 +77,8 @@ pub fn program<'a>(alloc: Global) -> Result<Program<'a>, AllocError> {
     program = with_command(with_rules(program), with_json(alloc, ask_program(alloc)?)?)?;
     program = with_command(program, with_json(alloc, who_program(alloc)?)?)?;
     program = with_command(program, with_json(alloc, diff_program(alloc)?)?)?;
+    program = with_command(program, with_json(alloc, why_program(alloc)?)?)?;
+    program = with_command(program, with_json(alloc, show_program(alloc)?)?)?;
     with_command(program, with_json(alloc, check_program(alloc)?)?)
 }
 
@@ -183,6 +195,19 @@ fn diff_program<'a>(alloc: Global) -> Result<Program<'a>, AllocError> {
     with_word(alloc, program, "W", "another version")
 }
 
+fn why_program<'a>(alloc: Global) -> Result<Program<'a>, AllocError> {
+    let program = over_file(
+        alloc,
+        "why",
+        "Why a line of a session was answered as it was",
+    )?;
+    with_word(alloc, program, "LINE", "the number of a line that runs")
+}
+
+fn show_program<'a>(alloc: Global) -> Result<Program<'a>, AllocError> {
+    over_file(alloc, "show", "The lines of a session with their answers")
+}
+
 fn check_program<'a>(alloc: Global) -> Result<Program<'a>, AllocError> {
     let program = named(
         alloc,
@@ -206,6 +231,8 @@ pub fn request_of<'w>(matches: &ArgMatches<'w>) -> Option<Request<'w>> {
         "ask" => Command::Ask(ask_words(matches)),
         "who" => Command::Who(who_words(matches)),
         "diff" => Command::Diff(diff_words(matches)),
+        "why" => Command::Why(why_words(matches)),
+        "show" => Command::Show,
         "check" => Command::Check,
         _ => return None,
     };
@@ -246,6 +273,14 @@ fn diff_words<'w>(matches: &ArgMatches<'w>) -> DiffWords<'w>
     DiffWords {
         before: given(matches, "V"),
         after: given(matches, "W"),
+    }
+}
+
+fn why_words<'w>(matches: &ArgMatches<'w>) -> WhyWords<'w>
+    ensures { result.line.now ≡ word_at (found_of matches.now) (codes "LINE") }
+{
+    WhyWords {
+        line: given(matches, "LINE"),
     }
 }
 

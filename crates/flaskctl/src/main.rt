@@ -27,7 +27,11 @@ fn main(rt: HostRuntime) -> io::Result<ExitCode> {
     let Some(request) = request_of(&matches) else {
         return Ok(ExitCode::from(2));
     };
-    match answered(&rt, &request) {
+    let bytes = match read_text(&rt, &request) {
+        Ok(bytes) => bytes,
+        Err(stop) => return said(&rt, &stop),
+    };
+    match answer(&rt, rt.alloc(), bytes.as_slice(), &request) {
         Ok(report) => written(&rt, &report),
         Err(stop) => said(&rt, &stop),
     }
@@ -49,16 +53,14 @@ fn said(rt: &HostRuntime, stop: &Stop) -> io::Result<ExitCode> {
     Ok(ExitCode::from(stop.code()))
 }
 
-/// The answer of a request, of its file or of standard input.
-fn answered(rt: &HostRuntime, request: &Request<'_>) -> Result<Report, Stop> {
+/// The bytes of the file that a request names, or of standard input.
+fn read_text(rt: &HostRuntime, request: &Request<'_>) -> Result<Vec<u8>, Stop> {
     let alloc = rt.alloc();
-    let bytes = if request.file == "-" {
-        read_input(alloc, &mut ReaderSource::new(rt.stdin()))?
-    } else {
-        let Ok(file) = fs::open(rt, request.file) else {
-            return Err(Stop::ReadFault);
-        };
-        read_input(alloc, &mut ReaderSource::new(file))?
+    if request.file == "-" {
+        return read_input(alloc, &mut ReaderSource::new(rt.stdin()));
+    }
+    let Ok(file) = fs::open(rt, request.file) else {
+        return Err(Stop::ReadFault);
     };
-    answer(alloc, bytes.as_slice(), request)
+    read_input(alloc, &mut ReaderSource::new(file))
 }

@@ -12,9 +12,13 @@ mod input;
 mod known;
 mod refusing;
 mod report;
+mod session;
+mod show;
 mod source;
 mod stop;
 mod text;
+mod why;
+mod wording;
 
 pub use answering::answer;
 pub use input::read_input;

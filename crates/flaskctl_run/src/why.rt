@@ -1,0 +1,171 @@
+//! `why`: what a line of a session asked when it was run, and which lines of the policy decided it.
+
+use crate::asking::write_by;
+use crate::checking::check;
+use crate::report::{Form, Report, report_of};
+use crate::session::read_session;
+use crate::source::Source;
+use crate::stop::Stop;
+use access_vectors::{Asked, class_name, perm_name};
+use control_words::WhyWords;
+use fault_causes::text_of;
+use flask_sid::{Sid, SidTable, Word};
+use policy_answers::{allowing_versions, decision_on};
+use policy_versions::compile;
+use serde::Serialize;
+use session_questions::{LineQuestions, LineRun, run_session};
+use std::alloc::Global;
+use std::fmt::{self, Display, Formatter};
+use std::sync::Wait;
+use text_lines::numeral;
+
+/// A question that a line asked, with the line that decided it, and the versions that would allow it where it was denied.
+#[derive(Debug, Drop, Serialize)]
+struct Reason<'t> {
+    version: u8,
+    source: &'t str,
+    target: &'t str,
+    class: &'static str,
+    permission: &'static str,
+    allowed: bool,
+    line: Option<u32>,
+    text: Option<&'t str>,
+    allowing: Vec<u8>,
+}
+
+impl Display for Reason<'_> {
+    fn fmt<W: fmt::Write>(&self, f: &mut Formatter<W>) -> fmt::Result {
+        let answer = if self.allowed { "yes" } else { "no" };
+        let (source, target) = (self.source, self.target);
+        let (class, permission, version) = (self.class, self.permission, self.version);
+        write!(
+            f,
+            "{answer} {source} {target} {class} {permission}, version {version}, "
+        )?;
+        write_by(f, self.line, self.text)?;
+        if !self.allowed {
+            write_allowing(f, self.allowing.as_slice())?;
+        }
+        Ok(())
+    }
+}
+
+/// Writes which versions would allow what was denied.
+fn write_allowing<W: fmt::Write>(f: &mut Formatter<W>, versions: &[u8]) -> fmt::Result {
+    if versions.is_empty() {
+        return write!(f, "; no version allows it");
+    }
+    write!(f, "; allowed by version")?;
+    'versions: for version in versions {
+        write!(f, " {version}")?;
+    }
+    Ok(())
+}
+
+/// Answers `why`. The status is 1 where the line was denied something.
+pub(crate) fn why<R: Wait>(
+    rt: &R,
+    alloc: Global,
+    form: Form,
+    bytes: &[u8],
+    words: &WhyWords<'_>,
+) -> Result<Report, Stop> {
+    let number = line_of(alloc, words.line)?;
+    let session = read_session(alloc, bytes)?;
+    let Ok(catalogue) = compile(alloc, &session.parts().policy) else {
+        return check(alloc, form, bytes);
+    };
+    let run = run_session(rt, alloc, session.into_parts(), &catalogue)?;
+    let Some(questions) = questions_of(run.lines.as_slice(), number) else {
+        return Err(Stop::Usage(format!(in alloc;
+            "line {number} is no client's call: it asks nothing"
+        )?));
+    };
+    let source = Source {
+        bytes,
+        policy: &run.policy,
+    };
+    explained(alloc, form, source, catalogue.sids(), questions)
+}
+
+/// What the line of a number asked, where it is a client's call.
+fn questions_of(runs: &[LineRun], number: u32) -> Option<&LineQuestions> {
+    'runs: for run in runs {
+        if run.line == number {
+            return run.questions.as_ref();
+        }
+    }
+    None
+}
+
+/// The answer on these questions: 1 where one was denied.
+fn explained(
+    alloc: Global,
+    form: Form,
+    source: Source<'_>,
+    sids: &SidTable,
+    questions: &LineQuestions,
+) -> Result<Report, Stop> {
+    let mut reasons = Vec::new(alloc);
+    let mut status = 0;
+    'questions: for asked in questions.asked.as_slice() {
+        if !asked.yes {
+            status = 1;
+        }
+        reasons.push(reason_of(alloc, source, sids, questions.version, asked)?)?;
+    }
+    if reasons.is_empty() && form == Form::Lines {
+        let text = String::from_str(alloc, "the call asked nothing\n")?;
+        return Ok(Report { text, status });
+    }
+    report_of(alloc, form, status, reasons.as_slice())
+}
+
+/// The number of a line.
+fn line_of(alloc: Global, word: &str) -> Result<u32, Stop> {
+    if let Some(number) = numeral(&Word::new(word.as_bytes())) {
+        if let Ok(line) = u32::try_from(number) {
+            return Ok(line);
+        }
+    }
+    Err(Stop::Usage(format!(in alloc; "'{word}' is no number of a line")?))
+}
+
+/// A question in words, with the line that decides it.
+fn reason_of<'t>(
+    alloc: Global,
+    source: Source<'t>,
+    sids: &'t SidTable,
+    version: u8,
+    asked: &Asked,
+) -> Result<Reason<'t>, Stop> {
+    let (s, t) = (kind_of(sids, asked.s), kind_of(sids, asked.t));
+    let perm = asked.perm;
+    let decision = decision_on(source.policy, version, s, t, perm);
+    let mut allowing = Vec::new(alloc);
+    if !asked.yes {
+        let versions = allowing_versions(alloc, source.policy, s, t, perm)?;
+        'versions: for version in versions.as_slice() {
+            allowing.push(*version)?;
+        }
+    }
+    Ok(Reason {
+        version,
+        source: text_of(s),
+        target: text_of(t),
+        class: class_name(perm.class()),
+        permission: perm_name(perm),
+        allowed: asked.yes,
+        line: decision.line,
+        text: source.line(decision.line),
+        allowing,
+    })
+}
+
+/// The type of an identifier's context.
+fn kind_of(sids: &SidTable, sid: Sid) -> &[u8] {
+    match sids.context(sid) {
+        None => &[],
+        Some(context) => context.kind.as_bytes(),
+    }
+}

@@ -1,0 +1,17 @@
+use Rattle.session_questions.proofs.RunLemmas.{call_formed, process_formed, port_formed}
+use Rattle.session_questions.proofs.lines.act.Goals as goal
+
+pub call-requires-clause-formed : goal.call-requires-clause-formed
+call-requires-clause-formed g c =
+    call_formed (g.D.Decider.decides c.args.managed.now.decider) c.args.managed.now.state.files.state c.args.clients c.in-File.client c.in-File.asks c.requires.clients.files
+    (rw c.in-File.is at c.requires.formed)
+
+pub call-requires-in-Process-clause-formed : goal.call-requires-in-Process-clause-formed
+call-requires-in-Process-clause-formed g c =
+    process_formed (g.D.Decider.decides c.args.managed.now.decider) c.args.managed.now.state.processes.state c.args.clients c.in-Process.client c.in-Process.asks c.requires.clients.processes
+    (rw c.in-Process.is at c.requires.formed)
+
+pub call-requires-in-Port-clause-formed : goal.call-requires-in-Port-clause-formed
+call-requires-in-Port-clause-formed g c =
+    port_formed (g.D.Decider.decides c.args.managed.now.decider) c.args.managed.now.state.ports.state c.args.clients c.in-Port.client c.in-Port.asks c.requires.clients.ports
+    (rw c.in-Port.is at c.requires.formed)

@@ -1,0 +1,9 @@
+//! What each line of a session comes to where the session is run, and what its call asks.
+#![tactic(auto)]
+
+mod lines;
+mod opening;
+mod running;
+
+pub use lines::{LineAnswer, LineQuestions, LineRun};
+pub use running::{SessionRun, run_session};
