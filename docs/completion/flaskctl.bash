@@ -7,6 +7,7 @@ _flaskctl() {
     case $COMP_CWORD:${COMP_WORDS[1]} in
         1:*) mapfile -t COMPREPLY < <(compgen -W 'check ask who diff why show help' -- "$word") ;;
         2:check | 2:ask | 2:who | 2:diff | 2:why | 2:show) mapfile -t COMPREPLY < <(compgen -f -- "$word") ;;
+        3:show) mapfile -t COMPREPLY < <(compgen -W '--svg --json' -- "$word") ;;
         3:ask | 3:who | 3:diff | 4:diff) mapfile -t COMPREPLY < <(compgen -W '0 1' -- "$word") ;;
         6:ask | 5:who) mapfile -t COMPREPLY < <(compgen -W 'file dir process port security' -- "$word") ;;
         *) COMPREPLY=() ;;
