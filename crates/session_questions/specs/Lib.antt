@@ -1,2 +1,2 @@
 pub mod LineRuns
-pub mod Underway
+pub mod Keeping

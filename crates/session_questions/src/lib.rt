@@ -2,8 +2,8 @@
 #![tactic(auto)]
 
 mod lines;
-mod opening;
 mod running;
 
-pub use lines::{LineAnswer, LineQuestions, LineRun};
+pub use lines::{LineQuestions, LineRun};
 pub use running::{SessionRun, run_session};
+pub use session_runner::LineAnswer;

@@ -1,5 +1,5 @@
-use Rattle.session_questions.proofs.RunLemmas.{call_formed, process_formed, port_formed}
-use Rattle.session_questions.proofs.lines.act.Goals as goal
+use Rattle.session_runner.proofs.RunnerLemmas.{call_formed, process_formed, port_formed}
+use Rattle.session_runner.proofs.answering.answer.Goals as goal
 
 pub call-requires-clause-formed : goal.call-requires-clause-formed
 call-requires-clause-formed g c =

@@ -1,0 +1,3 @@
+pub mod RunnerLemmas
+pub mod OpeningLemmas
+pub mod RecorderLemmas
