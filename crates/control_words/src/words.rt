@@ -86,16 +86,34 @@ pub fn program<'a>(alloc: Global) -> Result<Program<'a>, AllocError> {
 // such calls longer.
 
 fn named<'a>(alloc: Global, name: &'a str, about: &'a str) -> Program<'a> {
-    Program::new(alloc, name).about(about)
+    with_about(of_name(alloc, name), about)
+}
+
+fn of_name<'a>(alloc: Global, name: &'a str) -> Program<'a> {
+    Program::new(alloc, name)
+}
+
+fn with_about<'a>(program: Program<'a>, about: &'a str) -> Program<'a> {
+    program.about(about)
 }
 
 /// The program with its version, and the rule that a command is wanted.
 fn with_rules<'a>(program: Program<'a>) -> Program<'a> {
+    with_wanted_command(with_help(with_version(program)))
+}
+
+fn with_version<'a>(program: Program<'a>) -> Program<'a> {
+    program.version("1")
+}
+
+fn with_help<'a>(program: Program<'a>) -> Program<'a> {
+    program.after_help(
+        "FILE is a policy or a session; - stands for standard input. Exit status: 0; 1 for an answer no or a finding; 2 for words; 3 for a text that is refused.",
+    )
+}
+
+fn with_wanted_command<'a>(program: Program<'a>) -> Program<'a> {
     program
-        .version("1")
-        .after_help(
-            "FILE is a policy or a session; - stands for standard input. Exit status: 0; 1 for an answer no or a finding; 2 for words; 3 for a text that is refused.",
-        )
         .subcommand_required(true)
         .arg_required_else_help(true)
 }
@@ -109,18 +127,31 @@ fn with_argument<'a>(program: Program<'a>, argument: Arg<'a>) -> Result<Program<
 }
 
 fn wanted<'a>(alloc: Global, name: &'a str, help: &'a str) -> Arg<'a> {
-    Arg::new(alloc, name).required(true).help(help)
+    as_required(optional(alloc, name, help))
+}
+
+fn as_required<'a>(argument: Arg<'a>) -> Arg<'a> {
+    argument.required(true)
 }
 
 fn optional<'a>(alloc: Global, name: &'a str, help: &'a str) -> Arg<'a> {
-    Arg::new(alloc, name).help(help)
+    with_text(argument_of(alloc, name), help)
+}
+
+fn argument_of<'a>(alloc: Global, name: &'a str) -> Arg<'a> {
+    Arg::new(alloc, name)
+}
+
+fn with_text<'a>(argument: Arg<'a>, help: &'a str) -> Arg<'a> {
+    argument.help(help)
 }
 
 fn flag<'a>(alloc: Global, name: &'a str, help: &'a str) -> Arg<'a> {
-    Arg::new(alloc, name)
-        .long(name)
-        .action(ArgAction::SetTrue)
-        .help(help)
+    as_flag(optional(alloc, name, help), name)
+}
+
+fn as_flag<'a>(argument: Arg<'a>, name: &'a str) -> Arg<'a> {
+    argument.long(name).action(ArgAction::SetTrue)
 }
 
 /// A command that may answer as JSON.

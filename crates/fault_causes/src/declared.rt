@@ -50,13 +50,58 @@ impl<'a> Scene<'a> {
     }
 
     /// The names alone.
-    pub(crate) fn names(&self, declared: &[Declared<'a>]) -> Result<Vec<&'a str>, Memory> {
+    pub(crate) fn names(&self, declared: Vec<Declared<'a>>) -> Result<Vec<&'a str>, Memory> {
         let mut names = Vec::new(self.alloc);
-        'declared: for one in declared {
+        'declared: for one in declared.as_slice() {
             names.push(one.name)?;
         }
         Ok(names)
     }
+
+    /// Whether what stands behind lines above with this first word has a name among it.
+    pub(crate) fn is_declared(&self, first: &str, name: &str) -> Result<bool, Memory> {
+        Ok(line_of(self.declared(first, 1)?.as_slice(), name).is_some())
+    }
+
+    /// The first line above with this first word.
+    pub(crate) fn line_with(&self, first: &str) -> Option<u32> {
+        first_with(self.above.as_slice(), first)
+    }
+
+    /// The first line below with this first word.
+    pub(crate) fn line_below(&self, first: &str) -> Option<u32> {
+        first_with(self.below.as_slice(), first)
+    }
+
+    /// The first line below that declares a name.
+    pub(crate) fn declared_below(&self, name: &str) -> Option<u32> {
+        'lines: for (line, text) in self.below.as_slice() {
+            if declares(*text, name) {
+                return Some(*line);
+            }
+        }
+        None
+    }
+}
+
+/// The number of the first of these lines that has this first word.
+fn first_with(lines: &[(u32, &[u8])], first: &str) -> Option<u32> {
+    'lines: for (line, text) in lines {
+        if word_at(*text, 0) == first {
+            return Some(*line);
+        }
+    }
+    None
+}
+
+/// Whether a line declares a name.
+fn declares(line: &[u8], name: &str) -> bool {
+    let (first, second) = (word_at(line, 0), word_at(line, 1));
+    if first == "context" {
+        return second == name || behind_colons(second) == name;
+    }
+    second == name
+        && (first == "type" || first == "attribute" || first == "client" || first == "dir")
 }
 
 /// The last of the names of a context.

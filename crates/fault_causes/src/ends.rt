@@ -1,19 +1,11 @@
 //! Texts that end too early.
 
-use crate::cause::Cause;
 use crate::places::Place;
 use crate::scene::Scene;
-use flask_sid::Memory;
 
 impl<'a> Scene<'a> {
     /// What a text lacks at its end, or at its line `session`.
-    pub(crate) fn ended_cause(&self, is_session: bool) -> Result<Cause, Memory> {
-        let alloc = self.alloc;
-        let what = String::from_str(alloc, self.lacked(is_session))?;
-        Ok(self.about(what))
-    }
-
-    fn lacked(&self, is_session: bool) -> &'static str {
+    pub(crate) fn lacked(&self, is_session: bool) -> &'static str {
         if self.place == Place::Setup {
             return "the text ends without a line run, below which the lines that run stand";
         }

@@ -17,13 +17,18 @@ mod misfits;
 mod names;
 mod orders;
 mod parts;
+mod permissions;
 mod places;
 mod ranges;
+mod roles;
 mod scene;
 mod seconds;
+mod sentences;
 mod unknowns;
 
 pub use cause::{Cause, Mark};
 pub use explaining::explain;
 pub use lines::{line_at, line_count, text_of};
 pub use names::nearest;
+pub use permissions::{CLASSES, no_class, no_permission, permission_names};
+pub use sentences::{digits, joined, listed, put_all, put_number};

@@ -38,20 +38,20 @@ pub fn line_count(bytes: &[u8]) -> usize {
     }
 }
 
-/// The lines above that of a number, each with its own number.
-pub(crate) fn lines_above<'a>(
+/// The lines below one of these numbers and above the other, each with its own number.
+pub(crate) fn lines_between<'a>(
     alloc: Global,
     bytes: &'a [u8],
-    number: u32,
+    above: u32,
+    below: u32,
 ) -> Result<Vec<(u32, &'a [u8])>, Memory> {
     let mut lines = Vec::new(alloc);
-    let mut below = 0u32;
+    let mut number = 0u32;
     'lines: for line in bytes.split(is_line_end) {
-        below = below.saturating_add(1);
-        if below >= number {
-            return Ok(lines);
+        number = number.saturating_add(1);
+        if above < number && number < below {
+            lines.push((number, line))?;
         }
-        lines.push((below, line))?;
     }
     Ok(lines)
 }

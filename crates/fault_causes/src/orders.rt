@@ -4,55 +4,52 @@ use crate::cause::Cause;
 use crate::lines::word_at;
 use crate::places::Place;
 use crate::scene::Scene;
+use crate::sentences::digits;
 use flask_sid::Memory;
 
 impl<'a> Scene<'a> {
     /// Why a line may not stand at its place.
-    pub(crate) fn order_cause(&self) -> Result<Cause, Memory> {
-        let alloc = self.alloc;
+    pub(crate) fn order_cause(&self) -> Result<Cause<'a>, Memory> {
         if self.place == Place::Run {
             return self.pass_cause();
         }
-        let first = self.word(0);
-        if let Some(line) = self.line_with("policy") {
-            if first == "policy" {
-                let what = format!(in alloc;
-                    "the line policy 1 stands once, at the head: it stands in line {line} already"
-                )?;
-                return Ok(self.at(0, what));
-            }
-        } else {
-            let what = String::from_str(
-                alloc,
-                "the first line that says anything has to be policy 1",
-            )?;
-            return Ok(self.at(0, what));
-        }
-        match self.line_with("version") {
-            Some(line) => {
-                let what = format!(in alloc;
-                    "declarations stand above the first version, which begins in line {line}"
-                )?;
-                Ok(self.at(0, what))
-            }
-            None => {
-                let what = String::from_str(
-                    alloc,
-                    "a rule line stands in a version: a line version is missing above it",
-                )?;
-                Ok(self.at(0, what))
-            }
+        match self.line_with("policy") {
+            None => self.told(0, &["the first line that says anything has to be policy 1"]),
+            Some(line) => if self.word(0) == "policy" {
+                self.by_line(
+                    "the line policy 1 stands once, at the head: it stands in line ",
+                    line,
+                    " already",
+                )
+            } else {
+                self.version_cause()
+            },
         }
     }
 
-    /// The first line above with this first word.
-    pub(crate) fn line_with(&self, first: &str) -> Option<u32> {
-        'lines: for (line, text) in self.above.as_slice() {
-            if word_at(*text, 0) == first {
-                return Some(*line);
-            }
+    fn version_cause(&self) -> Result<Cause<'a>, Memory> {
+        match self.line_with("version") {
+            Some(line) => self.by_line(
+                "declarations stand above the first version, which begins in line ",
+                line,
+                "",
+            ),
+            None => self.told(
+                0,
+                &["a rule line stands in a version: a line version is missing above it"],
+            ),
         }
-        None
+    }
+
+    /// A cause at the first word, with the number of a line between two parts of the sentence.
+    pub(crate) fn by_line(
+        &self,
+        before: &str,
+        line: u32,
+        behind: &str,
+    ) -> Result<Cause<'a>, Memory> {
+        let line = digits(self.alloc, u64::from(line))?;
+        self.told(0, &[before, line.as_str(), behind])
     }
 
     /// The last `begin` or `end` above of the client and the manager of the line.
@@ -70,22 +67,28 @@ impl<'a> Scene<'a> {
         last
     }
 
-    fn pass_cause(&self) -> Result<Cause, Memory> {
-        let alloc = self.alloc;
-        let client = self.word(0);
-        let manager = self.word(1);
-        let what = match self.last_pass() {
-            None => format!(in alloc; "{client} has not begun with the manager {manager}")?,
-            Some((line, call)) => if call == "begin" {
-                format!(in alloc;
-                    "{client} has begun with the manager {manager} in line {line} already"
-                )?
-            } else {
-                format!(in alloc;
-                    "{client} has ended with the manager {manager} in line {line} already"
-                )?
-            },
+    fn pass_cause(&self) -> Result<Cause<'a>, Memory> {
+        let (client, manager) = (self.word(0), self.word(1));
+        let Some((line, call)) = self.last_pass() else {
+            return self.told(2, &[client, " has not begun with the manager ", manager]);
         };
-        Ok(self.at(2, what))
+        let line = digits(self.alloc, u64::from(line))?;
+        let did = if call == "begin" {
+            " has begun"
+        } else {
+            " has ended"
+        };
+        self.told(
+            2,
+            &[
+                client,
+                did,
+                " with the manager ",
+                manager,
+                " in line ",
+                line.as_str(),
+                " already",
+            ],
+        )
     }
 }

@@ -4,24 +4,18 @@ use crate::cause::Cause;
 use crate::declared::{Declared, line_of};
 use crate::lines::word_at;
 use crate::scene::Scene;
+use crate::sentences::digits;
 use flask_sid::Memory;
 
 impl<'a> Scene<'a> {
     /// Where what a line declares was declared before.
-    pub(crate) fn twice_cause(&self) -> Result<Cause, Memory> {
-        let alloc = self.alloc;
+    pub(crate) fn twice_cause(&self) -> Result<Cause<'a>, Memory> {
         let (first, second) = (self.word(0), self.word(1));
         if first == "client" && second == "admin" {
-            return Ok(self.at(
-                1,
-                String::from_str(alloc, "admin is the administrator, and no client's name")?,
-            ));
+            return self.told(1, &["admin is the administrator, and no client's name"]);
         }
         if second == "/" {
-            return Ok(self.at(
-                1,
-                String::from_str(alloc, "the root is there without a line of its own")?,
-            ));
+            return self.told(1, &["the root is there without a line of its own"]);
         }
         if first == "audit" {
             return self.second(0, self.line_with("audit"));
@@ -63,14 +57,22 @@ impl<'a> Scene<'a> {
         Ok(found)
     }
 
-    fn second(&self, at: usize, line: Option<u32>) -> Result<Cause, Memory> {
-        let alloc = self.alloc;
+    fn second(&self, at: usize, line: Option<u32>) -> Result<Cause<'a>, Memory> {
         let word = self.word(at);
-        let what = match line {
-            None => format!(in alloc; "'{word}' is declared a second time")?,
-            Some(line) => format!(in alloc; "'{word}' is declared in line {line} already")?,
+        let Some(line) = line else {
+            return self.told(at, &["'", word, "' is declared a second time"]);
         };
-        Ok(self.at(at, what))
+        let line = digits(self.alloc, u64::from(line))?;
+        self.told(
+            at,
+            &[
+                "'",
+                word,
+                "' is declared in line ",
+                line.as_str(),
+                " already",
+            ],
+        )
     }
 }
 

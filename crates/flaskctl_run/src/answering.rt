@@ -5,7 +5,7 @@ use crate::checking::check;
 use crate::differing::diff;
 use crate::finding::finding_of;
 use crate::holding::who;
-use crate::report::{Form, Report};
+use crate::report::{Form, Listed, Report};
 use crate::show::show;
 use crate::source::Source;
 use crate::stop::Stop;
@@ -57,7 +57,9 @@ pub(crate) fn read_or_explain(alloc: Global, bytes: &[u8]) -> Result<ManuallyDro
         Err(TextFault::Memory) => Err(Stop::Memory),
         Err(TextFault::Text { line, kind }) => {
             let found = finding_of(alloc, bytes, line, kind, is_session(bytes))?;
-            Err(Stop::Refused(format!(in alloc; "{found}")?))
+            let mut text = String::new(alloc);
+            found.put_lines(&mut text)?;
+            Err(Stop::Refused(text))
         }
     }
 }

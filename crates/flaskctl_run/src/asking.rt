@@ -1,18 +1,19 @@
 //! `ask`: what a version decides between two types, permission by permission, and by which lines.
 
+use crate::json::{Value, put_object};
 use crate::known::{class_named, permission_named, type_of, version_of};
-use crate::report::{Form, Report, report_of};
+use crate::report::{Form, Listed, Report, report_of};
 use crate::source::Source;
 use crate::stop::Stop;
 use access_vectors::perm_name;
 use control_words::AskWords;
+use fault_causes::{put_all, put_number};
+use flask_sid::Memory;
 use policy_answers::{Decision, decision_on, decisions};
-use serde::Serialize;
 use std::alloc::Global;
-use std::fmt::{self, Display, Formatter};
 
 /// What a version decides on a permission.
-#[derive(Debug, Drop, Serialize)]
+#[derive(Drop)]
 struct Answered<'t> {
     permission: &'static str,
     allowed: bool,
@@ -31,28 +32,41 @@ impl<'t> Answered<'t> {
     }
 }
 
-impl Display for Answered<'_> {
-    fn fmt<W: fmt::Write>(&self, f: &mut Formatter<W>) -> fmt::Result {
-        let answer = if self.allowed { "yes" } else { "no" };
-        let permission = self.permission;
-        write!(f, "{answer} {permission}, ")?;
-        write_by(f, self.line, self.text)
+impl Listed for Answered<'_> {
+    fn put_lines(&self, out: &mut String) -> Result<(), Memory> {
+        put_all(out, &[yes_or_no(self.allowed), " ", self.permission, ", "])?;
+        put_by(out, self.line, self.text)
+    }
+
+    fn put_json(&self, out: &mut String) -> Result<(), Memory> {
+        put_object(
+            out,
+            &[
+                ("permission", Value::Text(self.permission)),
+                ("allowed", Value::Truth(self.allowed)),
+                ("line", Value::of_number(self.line)),
+                ("text", Value::of_text(self.text)),
+            ],
+        )
     }
 }
 
-/// Writes the number and the text of a line, or that there is none.
-pub(crate) fn write_by<W: fmt::Write>(
-    f: &mut Formatter<W>,
+pub(crate) fn yes_or_no(allowed: bool) -> &'static str {
+    if allowed { "yes" } else { "no" }
+}
+
+/// Puts the number and the text of a line, or that there is none.
+pub(crate) fn put_by(
+    out: &mut String,
     line: Option<u32>,
     text: Option<&str>,
-) -> fmt::Result {
-    match line {
-        None => write!(f, "no line"),
-        Some(line) => {
-            let text = text.unwrap_or("");
-            write!(f, "line {line}: {text}")
-        }
-    }
+) -> Result<(), Memory> {
+    let Some(line) = line else {
+        return put_all(out, &["no line"]);
+    };
+    put_all(out, &["line "])?;
+    put_number(out, u64::from(line))?;
+    put_all(out, &[": ", text.unwrap_or("")])
 }
 
 /// Answers `ask`. The status is 1 where one permission was asked for and is not allowed.

@@ -1,13 +1,14 @@
 //! `check`: whether a text is well formed, and its policy one that may be used.
 
 use crate::counting::{Count, counts_of};
-use crate::finding::{Finding, finding_of};
+use crate::finding::finding_of;
+use crate::notes::notes_of;
 use crate::refusing::refusals;
-use crate::report::{Form, Report, json_of, report_of};
+use crate::report::{Form, Listed, Report, put_lines, put_list, put_status, report_of};
 use crate::source::Source;
 use crate::stop::Stop;
 use crate::text::{Text, is_session, read_text};
-use fault_causes::line_count;
+use fault_causes::{line_count, put_all};
 use flask_sid::Memory;
 use policy_versions::{CompileFault, compile};
 use std::alloc::Global;
@@ -25,7 +26,7 @@ pub(crate) fn check(alloc: Global, form: Form, bytes: &[u8]) -> Result<Report, S
         Ok(catalogue) => {
             // Kept to the end, as the text is.
             forget(catalogue);
-            well_formed(alloc, form, &text, line_count(bytes))
+            well_formed(alloc, form, &text, bytes)
         }
         Err(CompileFault::Memory) => Err(Stop::Memory),
         Err(fault) => {
@@ -45,28 +46,37 @@ fn faulty(
     kind: FaultKind,
 ) -> Result<Report, Stop> {
     let found = finding_of(alloc, bytes, line, kind, is_session(bytes))?;
-    let mut findings: Vec<Finding> = Vec::new(alloc);
+    let mut findings = Vec::new(alloc);
     findings.push(found)?;
     report_of(alloc, form, 1, findings.as_slice())
 }
 
-/// The counts of a text that is well formed, in one line.
-fn well_formed(alloc: Global, form: Form, text: &Text, lines: usize) -> Result<Report, Stop> {
-    let counts = counts_of(alloc, text, lines)?;
-    let text = match form {
-        Form::Lines => one_line(alloc, counts.as_slice())?,
-        Form::Json => json_of(alloc, 0, counts.as_slice())?,
-    };
+/// The counts of a text that is well formed, in one line, and behind them notes.
+fn well_formed(alloc: Global, form: Form, text: &Text, bytes: &[u8]) -> Result<Report, Stop> {
+    let counts = counts_of(alloc, text, line_count(bytes))?;
+    let policy = text.policy();
+    let notes = notes_of(alloc, Source { bytes, policy }, text)?;
+    let mut text = String::new(alloc);
+    match form {
+        Form::Lines => {
+            put_counts(&mut text, counts.as_slice())?;
+            put_lines(&mut text, notes.as_slice())?;
+        }
+        Form::Json => {
+            put_status(&mut text, 0)?;
+            put_list(&mut text, "results", counts.as_slice())?;
+            put_list(&mut text, "notes", notes.as_slice())?;
+            put_all(&mut text, &["}\n"])?;
+        }
+    }
     Ok(Report { text, status: 0 })
 }
 
-fn one_line(alloc: Global, counts: &[Count]) -> Result<String, Memory> {
-    let mut line = String::from_str(alloc, "well formed: ")?;
+fn put_counts(out: &mut String, counts: &[Count]) -> Result<(), Memory> {
+    put_all(out, &["well formed: "])?;
     'counts: for (at, count) in counts.iter().enumerate() {
-        let gap = if at == 0 { "" } else { ", " };
-        let part = format!(in alloc; "{gap}{count}")?;
-        line.push_str(part.as_str())?;
+        put_all(out, &[if at == 0 { "" } else { ", " }])?;
+        count.put_lines(out)?;
     }
-    line.push('\n')?;
-    Ok(line)
+    put_all(out, &["\n"])
 }

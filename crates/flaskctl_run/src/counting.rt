@@ -1,25 +1,39 @@
 //! How many of what a text has, and how many there may be.
 
+use crate::json::{Value, put_object};
+use crate::report::Listed;
 use crate::text::Text;
+use fault_causes::{put_all, put_number};
 use flask_sid::Memory;
 use policy_model::PolicyParts;
-use serde::Serialize;
 use session_text::SessionParts;
 use std::alloc::Global;
-use std::fmt::{self, Display, Formatter};
 
 /// How many of something a text has, and how many it may have.
-#[derive(Debug, Drop, Serialize)]
+#[derive(Drop)]
 pub(crate) struct Count {
     pub(crate) what: &'static str,
     pub(crate) count: usize,
     pub(crate) limit: usize,
 }
 
-impl Display for Count {
-    fn fmt<W: fmt::Write>(&self, f: &mut Formatter<W>) -> fmt::Result {
-        let (what, count, limit) = (self.what, self.count, self.limit);
-        write!(f, "{what} {count} of {limit}")
+impl Listed for Count {
+    fn put_lines(&self, out: &mut String) -> Result<(), Memory> {
+        put_all(out, &[self.what, " "])?;
+        put_number(out, self.count as u64)?;
+        put_all(out, &[" of "])?;
+        put_number(out, self.limit as u64)
+    }
+
+    fn put_json(&self, out: &mut String) -> Result<(), Memory> {
+        put_object(
+            out,
+            &[
+                ("what", Value::Text(self.what)),
+                ("count", Value::Number(self.count as u64)),
+                ("limit", Value::Number(self.limit as u64)),
+            ],
+        )
     }
 }
 

@@ -1,22 +1,22 @@
 //! `diff`: which permissions two versions give differently, and which types to new objects and as members, and by which lines.
 
-use crate::asking::write_by;
+use crate::asking::put_by;
+use crate::json::{Value, put_object};
 use crate::known::version_of;
-use crate::report::{Form, Report, report_of};
+use crate::report::{Form, Listed, Report, report_of};
 use crate::source::Source;
 use crate::stop::Stop;
 use access_vectors::{class_name, perm_name};
 use audit_allow::type_name;
 use control_words::DiffWords;
-use fault_causes::text_of;
+use fault_causes::{put_all, text_of};
+use flask_sid::Memory;
 use policy_answers::{Change, Relabel, changes, relabels};
 use policy_model::Labelling;
-use serde::Serialize;
 use std::alloc::Global;
-use std::fmt::{self, Display, Formatter};
 
 /// What two versions decide differently: a permission that is gained or lost, or the type of a new object or of a member.
-#[derive(Debug, Drop, Serialize)]
+#[derive(Drop)]
 struct Differing<'t> {
     what: &'static str,
     source: &'t str,
@@ -65,18 +65,35 @@ impl<'t> Differing<'t> {
     }
 }
 
-impl Display for Differing<'_> {
-    fn fmt<W: fmt::Write>(&self, f: &mut Formatter<W>) -> fmt::Result {
-        let (what, source, target) = (self.what, self.source, self.target);
-        let class = self.class;
-        write!(f, "{what} {source} {target} {class}")?;
+impl Listed for Differing<'_> {
+    fn put_lines(&self, out: &mut String) -> Result<(), Memory> {
+        put_all(out, &[self.what, " "])?;
+        put_all(out, &[self.source, " ", self.target, " "])?;
+        put_all(out, &[self.class])?;
         if let Some(permission) = self.permission {
-            write!(f, " {permission}")?;
+            put_all(out, &[" ", permission])?;
         }
-        write!(f, ", before ")?;
-        write_by(f, self.line_before, self.text_before)?;
-        write!(f, ", after ")?;
-        write_by(f, self.line_after, self.text_after)
+        put_all(out, &[", before "])?;
+        put_by(out, self.line_before, self.text_before)?;
+        put_all(out, &[", after "])?;
+        put_by(out, self.line_after, self.text_after)
+    }
+
+    fn put_json(&self, out: &mut String) -> Result<(), Memory> {
+        put_object(
+            out,
+            &[
+                ("what", Value::Text(self.what)),
+                ("source", Value::Text(self.source)),
+                ("target", Value::Text(self.target)),
+                ("class", Value::Text(self.class)),
+                ("permission", Value::of_text(self.permission)),
+                ("line_before", Value::of_number(self.line_before)),
+                ("text_before", Value::of_text(self.text_before)),
+                ("line_after", Value::of_number(self.line_after)),
+                ("text_after", Value::of_text(self.text_after)),
+            ],
+        )
     }
 }
 

@@ -1,16 +1,17 @@
 //! What is found wrong with a text.
 
-use fault_causes::{Cause, explain, line_at};
+use crate::json::{Value, put_object};
+use crate::report::Listed;
+use crate::source::Source;
+use fault_causes::{Cause, explain, line_at, put_all, put_number};
 use flask_sid::Memory;
-use serde::Serialize;
 use std::alloc::{AllocError, Global};
-use std::fmt::{self, Display, Formatter};
 use text_lines::FaultKind;
 
 /// A fault: the number of the line, the kind, the cause in one sentence, the text of the line, the bytes at fault, the form of such
 /// a line, and the known name that is nearest to an unknown one. Columns are counted from 1.
-#[derive(Debug, Drop, Serialize)]
-pub(crate) struct Finding {
+#[derive(Drop)]
+pub(crate) struct Finding<'t> {
     pub(crate) line: Option<u32>,
     pub(crate) kind: &'static str,
     pub(crate) cause: String,
@@ -18,59 +19,90 @@ pub(crate) struct Finding {
     pub(crate) column: Option<usize>,
     pub(crate) length: Option<usize>,
     pub(crate) form: Option<&'static str>,
-    pub(crate) nearest: Option<String>,
+    pub(crate) nearest: Option<&'t str>,
 }
 
-impl Display for Finding {
-    fn fmt<W: fmt::Write>(&self, f: &mut Formatter<W>) -> fmt::Result {
-        let (kind, cause) = (self.kind, self.cause.as_str());
-        match self.line {
-            None => write!(f, "{kind}\n  {cause}")?,
-            Some(line) => write!(f, "line {line}: {kind}\n  {cause}")?,
+impl Finding<'_> {
+    fn text(&self) -> Option<&str> {
+        match &self.text {
+            None => None,
+            Some(text) => Some(text.as_str()),
         }
-        if let Some(text) = &self.text {
-            let text = text.as_str();
-            write!(f, "\n  | {text}")?;
+    }
+
+    fn put_head(&self, out: &mut String) -> Result<(), Memory> {
+        if let Some(line) = self.line {
+            put_all(out, &["line "])?;
+            put_number(out, u64::from(line))?;
+            put_all(out, &[": "])?;
         }
-        write_marks(f, self.column, self.length)?;
-        if let Some(form) = self.form {
-            write!(f, "\n  form: {form}")?;
-        }
-        if let Some(name) = &self.nearest {
-            let name = name.as_str();
-            write!(f, "\n  did you mean {name}?")?;
-        }
-        Ok(())
+        put_all(out, &[self.kind])?;
+        put_all(out, &["\n  ", self.cause.as_str()])
+    }
+}
+
+impl Listed for Finding<'_> {
+    fn put_lines(&self, out: &mut String) -> Result<(), Memory> {
+        self.put_head(out)?;
+        put_behind(out, "\n  | ", self.text(), "")?;
+        put_marks(out, self.column, self.length)?;
+        put_behind(out, "\n  form: ", self.form, "")?;
+        put_behind(out, "\n  did you mean ", self.nearest, "?")
+    }
+
+    fn put_json(&self, out: &mut String) -> Result<(), Memory> {
+        put_object(
+            out,
+            &[
+                ("line", Value::of_number(self.line)),
+                ("kind", Value::Text(self.kind)),
+                ("cause", Value::Text(self.cause.as_str())),
+                ("text", Value::of_text(self.text())),
+                ("column", Value::of_count(self.column)),
+                ("length", Value::of_count(self.length)),
+                ("form", Value::of_text(self.form)),
+                ("nearest", Value::of_text(self.nearest)),
+            ],
+        )
+    }
+}
+
+/// Puts a text between two others, where there is one.
+fn put_behind(
+    out: &mut String,
+    before: &str,
+    text: Option<&str>,
+    behind: &str,
+) -> Result<(), Memory> {
+    match text {
+        None => Ok(()),
+        Some(text) => put_all(out, &[before, text, behind]),
     }
 }
 
 /// Marks the bytes at fault below the line.
-fn write_marks<W: fmt::Write>(
-    f: &mut Formatter<W>,
-    column: Option<usize>,
-    length: Option<usize>,
-) -> fmt::Result {
+fn put_marks(out: &mut String, column: Option<usize>, length: Option<usize>) -> Result<(), Memory> {
     let (Some(column), Some(length)) = (column, length) else {
         return Ok(());
     };
-    write!(f, "\n  | ")?;
+    put_all(out, &["\n  | "])?;
     'spaces: for _ in 1..column {
-        write!(f, " ")?;
+        put_all(out, &[" "])?;
     }
     'marks: for _ in 0..length {
-        write!(f, "^")?;
+        put_all(out, &["^"])?;
     }
     Ok(())
 }
 
 /// The fault of a text that a reader refuses at a line.
-pub(crate) fn finding_of(
+pub(crate) fn finding_of<'t>(
     alloc: Global,
-    bytes: &[u8],
+    bytes: &'t [u8],
     line: u32,
     kind: FaultKind,
     is_session: bool,
-) -> Result<Finding, Memory> {
+) -> Result<Finding<'t>, Memory> {
     let cause = explain(alloc, bytes, line, kind, is_session)?;
     let text = match line_at(bytes, line) {
         None => None,
@@ -79,7 +111,7 @@ pub(crate) fn finding_of(
     Ok(told(line, kind, cause, text))
 }
 
-fn told(line: u32, kind: FaultKind, cause: Cause, text: Option<String>) -> Finding {
+fn told<'t>(line: u32, kind: FaultKind, cause: Cause<'t>, text: Option<String>) -> Finding<'t> {
     let (column, length) = match cause.mark {
         None => (None, None),
         Some(mark) => (Some(mark.from.saturating_add(1)), Some(mark.length)),
@@ -96,8 +128,37 @@ fn told(line: u32, kind: FaultKind, cause: Cause, text: Option<String>) -> Findi
     }
 }
 
+/// A finding about a whole line.
+pub(crate) fn at_line<'t>(
+    alloc: Global,
+    source: Source<'_>,
+    line: u32,
+    kind: &'static str,
+    cause: String,
+) -> Result<Finding<'t>, Memory> {
+    let mut found = bare(Some(line), kind, cause);
+    if let Some(text) = source.line(Some(line)) {
+        found.text = Some(shown(alloc, text.as_bytes())?);
+    }
+    Ok(found)
+}
+
+/// A finding with nothing shown below it.
+pub(crate) fn bare<'t>(line: Option<u32>, kind: &'static str, cause: String) -> Finding<'t> {
+    Finding {
+        line,
+        kind,
+        cause,
+        text: None,
+        column: None,
+        length: None,
+        form: None,
+        nearest: None,
+    }
+}
+
 /// A line as it can be shown: each byte is one column. A tab is shown as a space, and what is no ASCII as `?`.
-pub(crate) fn shown(alloc: Global, line: &[u8]) -> Result<String, AllocError> {
+fn shown(alloc: Global, line: &[u8]) -> Result<String, AllocError> {
     let mut text = String::new(alloc);
     'bytes: for b in line {
         if b.is_ascii_graphic() {

@@ -1,20 +1,20 @@
 //! `who`: which types have a permission on targets of a type, and by which lines.
 
-use crate::asking::write_by;
+use crate::asking::put_by;
+use crate::json::{Value, put_object};
 use crate::known::{class_named, permission_named, type_of, version_of};
-use crate::report::{Form, Report, report_of};
+use crate::report::{Form, Listed, Report, report_of};
 use crate::source::Source;
 use crate::stop::Stop;
 use audit_allow::type_name;
 use control_words::WhoWords;
-use fault_causes::text_of;
+use fault_causes::{put_all, text_of};
+use flask_sid::Memory;
 use policy_answers::{Holder, holders};
-use serde::Serialize;
 use std::alloc::Global;
-use std::fmt::{self, Display, Formatter};
 
 /// A type that has the permission.
-#[derive(Debug, Drop, Serialize)]
+#[derive(Drop)]
 struct Holding<'t> {
     source: &'t str,
     line: Option<u32>,
@@ -31,11 +31,21 @@ impl<'t> Holding<'t> {
     }
 }
 
-impl Display for Holding<'_> {
-    fn fmt<W: fmt::Write>(&self, f: &mut Formatter<W>) -> fmt::Result {
-        let source = self.source;
-        write!(f, "{source}, ")?;
-        write_by(f, self.line, self.text)
+impl Listed for Holding<'_> {
+    fn put_lines(&self, out: &mut String) -> Result<(), Memory> {
+        put_all(out, &[self.source, ", "])?;
+        put_by(out, self.line, self.text)
+    }
+
+    fn put_json(&self, out: &mut String) -> Result<(), Memory> {
+        put_object(
+            out,
+            &[
+                ("source", Value::Text(self.source)),
+                ("line", Value::of_number(self.line)),
+                ("text", Value::of_text(self.text)),
+            ],
+        )
     }
 }
 

@@ -1,10 +1,13 @@
 //! What the words of a command name in a policy.
 
 use crate::stop::Stop;
-use access_vectors::{Class, Perm, class_name, class_of, perm_of};
-use fault_causes::{nearest, text_of};
-use flask_sid::Word;
-use policy_model::{PolicyParts, PolicyText};
+use access_vectors::{Class, Perm, class_of, perm_of};
+use fault_causes::{
+    CLASSES, digits, joined, listed, nearest, no_class, no_permission, permission_names, put_all,
+    text_of,
+};
+use flask_sid::{Memory, Word, context_form};
+use policy_model::{AttributeLine, PolicyParts, PolicyText};
 use std::alloc::Global;
 use text_lines::numeral;
 
@@ -18,8 +21,16 @@ pub(crate) fn version_of(alloc: Global, policy: &PolicyText, word: &str) -> Resu
             }
         }
     }
-    Err(Stop::Usage(format!(in alloc;
-        "the policy has no version '{word}': it has {count}, counted from 0"
+    let count = digits(alloc, count as u64)?;
+    Err(Stop::Usage(joined(
+        alloc,
+        &[
+            "the policy has no version '",
+            word,
+            "': it has ",
+            count.as_str(),
+            ", counted from 0",
+        ],
     )?))
 }
 
@@ -33,12 +44,33 @@ pub(crate) fn type_of<'w>(
     if is_type(parts, word.as_bytes()) {
         return Ok(word.as_bytes());
     }
+    if let Some(attribute) = attribute_of(parts, word.as_bytes()) {
+        return Err(Stop::Usage(no_attribute(alloc, attribute, word)?));
+    }
+    if let Some(context) = context_form(word.as_bytes()) {
+        let kind = text_of(context.kind.as_bytes());
+        return Err(Stop::Usage(of_word(alloc, word, "is a context: ask of its type, ", kind)?));
+    }
     let names = type_names(alloc, parts)?;
-    let near = match nearest(alloc, word, names.as_slice())? {
-        None => String::new(alloc),
-        Some(name) => format!(in alloc; "; did you mean {name}?")?,
-    };
-    Err(Stop::Usage(format!(in alloc; "the policy has no type '{word}'{near}")?))
+    let text = joined(alloc, &["the policy has no type '", word, "'"])?;
+    Err(Stop::Usage(with_nearest(alloc, text, word, names.as_slice())?))
+}
+
+fn of_word(alloc: Global, word: &str, what: &str, name: &str) -> Result<String, Memory> {
+    joined(alloc, &["'", word, "' ", what, name])
+}
+
+/// The text with the nearest of these names behind it, where one is near.
+fn with_nearest(
+    alloc: Global,
+    mut text: String,
+    word: &str,
+    names: &[&str],
+) -> Result<String, Memory> {
+    if let Some(name) = nearest(alloc, word, names)? {
+        put_all(&mut text, &["; did you mean ", name, "?"])?;
+    }
+    Ok(text)
 }
 
 fn is_type(policy: &PolicyParts, name: &[u8]) -> bool {
@@ -49,7 +81,7 @@ fn is_type(policy: &PolicyParts, name: &[u8]) -> bool {
         .any(|kind| kind.name.as_bytes() == name)
 }
 
-fn type_names(alloc: Global, policy: &PolicyParts) -> Result<Vec<&str>, Stop> {
+fn type_names(alloc: Global, policy: &PolicyParts) -> Result<Vec<&str>, Memory> {
     let mut names = Vec::new(alloc);
     'types: for kind in policy.kinds.as_slice() {
         names.push(text_of(kind.name.as_bytes()))?;
@@ -57,23 +89,46 @@ fn type_names(alloc: Global, policy: &PolicyParts) -> Result<Vec<&str>, Stop> {
     Ok(names)
 }
 
+/// The attribute of a name.
+fn attribute_of<'p>(policy: &'p PolicyParts, name: &[u8]) -> Option<&'p AttributeLine> {
+    'attributes: for attribute in policy.attributes.as_slice() {
+        if attribute.name.as_bytes() == name {
+            return Some(attribute);
+        }
+    }
+    None
+}
+
+/// What is said of an attribute where a type is wanted.
+fn no_attribute(alloc: Global, attribute: &AttributeLine, word: &str) -> Result<String, Memory> {
+    let mut names = Vec::new(alloc);
+    'members: for member in attribute.members.as_slice() {
+        names.push(text_of(member.as_bytes()))?;
+    }
+    let all = listed(alloc, names.as_slice())?;
+    of_word(
+        alloc,
+        word,
+        "is an attribute: ask of one of its types, ",
+        all.as_str(),
+    )
+}
+
 /// The class of a name.
 pub(crate) fn class_named(alloc: Global, word: &str) -> Result<Class, Stop> {
-    match class_of(word.as_bytes()) {
-        Some(class) => Ok(class),
-        None => Err(Stop::Usage(format!(in alloc;
-            "there is no class '{word}': file, dir, process, port and security are classes"
-        )?)),
+    if let Some(class) = class_of(word.as_bytes()) {
+        return Ok(class);
     }
+    let text = no_class(alloc, word)?;
+    Err(Stop::Usage(with_nearest(alloc, text, word, CLASSES.as_slice())?))
 }
 
 /// The permission of a class with a name.
 pub(crate) fn permission_named(alloc: Global, class: Class, word: &str) -> Result<Perm, Stop> {
-    match perm_of(class, word.as_bytes()) {
-        Some(perm) => Ok(perm),
-        None => {
-            let class = class_name(class);
-            Err(Stop::Usage(format!(in alloc; "the class {class} has no permission '{word}'")?))
-        }
+    if let Some(perm) = perm_of(class, word.as_bytes()) {
+        return Ok(perm);
     }
+    let names = permission_names(alloc, class)?;
+    let text = no_permission(alloc, class, word)?;
+    Err(Stop::Usage(with_nearest(alloc, text, word, names.as_slice())?))
 }

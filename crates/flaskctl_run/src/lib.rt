@@ -3,13 +3,16 @@
 
 mod answering;
 mod asking;
+mod calls;
 mod checking;
 mod counting;
 mod differing;
 mod finding;
 mod holding;
 mod input;
+mod json;
 mod known;
+mod notes;
 mod refusing;
 mod report;
 mod session;

@@ -1,11 +1,12 @@
 //! Why a policy that can be read is not used.
 
-use crate::finding::{Finding, shown};
+use crate::asking::put_by;
+use crate::finding::{Finding, at_line, bare};
 use crate::source::Source;
 use crate::stop::Stop;
 use access_vectors::{Perm, class_name, perm_name};
 use audit_allow::type_name;
-use fault_causes::text_of;
+use fault_causes::{digits, joined, put_all, text_of};
 use flask_sid::Memory;
 use policy_answers::decision_on;
 use policy_model::{RuleLine, Verdict};
@@ -23,11 +24,11 @@ struct Breach {
 }
 
 /// Why a policy is not used, with the lines that are the cause.
-pub(crate) fn refusals(
+pub(crate) fn refusals<'t>(
     alloc: Global,
-    source: Source<'_>,
+    source: Source<'t>,
     fault: CompileFault,
-) -> Result<Vec<Finding>, Stop> {
+) -> Result<Vec<Finding<'t>>, Stop> {
     match fault {
         CompileFault::Memory => Err(Stop::Memory),
         CompileFault::TooManyContexts => too_many(alloc, source),
@@ -53,28 +54,39 @@ pub(crate) fn refusals(
 }
 
 /// A `neverallow` line that a version breaks, with the line that allows what it forbids.
-fn broken(alloc: Global, source: Source<'_>, breach: &Breach) -> Result<Finding, Memory> {
+fn broken<'t>(alloc: Global, source: Source<'t>, breach: &Breach) -> Result<Finding<'t>, Memory> {
     let parts = source.policy.parts();
     let (s, t) = (type_name(parts, breach.s), type_name(parts, breach.t));
-    let (version, perm) = (breach.version, breach.perm);
-    let by = decision_on(source.policy, version, s, t, perm).line;
-    let text = source.line(by).unwrap_or("");
-    let by = by.unwrap_or(0);
-    let (s, t) = (text_of(s), text_of(t));
-    let (class, name) = (class_name(perm.class()), perm_name(perm));
-    let cause = format!(in alloc;
-        "version {version} allows {s} {t} {class} {name} by line {by}: {text}"
-    )?;
+    let by = decision_on(source.policy, breach.version, s, t, breach.perm).line;
+    let mut cause = allowed(alloc, breach, text_of(s), text_of(t))?;
+    put_by(&mut cause, by, source.line(by))?;
     at_line(alloc, source, breach.line, "neverallow", cause)
 }
 
+/// What a version allows, up to the line by which it does.
+fn allowed(alloc: Global, breach: &Breach, s: &str, t: &str) -> Result<String, Memory> {
+    let version = digits(alloc, u64::from(breach.version))?;
+    let mut text = joined(
+        alloc,
+        &["version ", version.as_str(), " allows ", s, " ", t, " "],
+    )?;
+    let (class, name) = (class_name(breach.perm.class()), perm_name(breach.perm));
+    put_all(&mut text, &[class, " ", name, " by "])?;
+    Ok(text)
+}
+
 /// More contexts than can be numbered, with each line that leads to others than the declared ones.
-fn too_many(alloc: Global, source: Source<'_>) -> Result<Vec<Finding>, Stop> {
+fn too_many<'t>(alloc: Global, source: Source<'t>) -> Result<Vec<Finding<'t>>, Stop> {
     let parts = source.policy.parts();
-    let declared = parts.contexts.len();
+    let declared = digits(alloc, parts.contexts.len() as u64)?;
     let mut findings = Vec::new(alloc);
-    let cause = format!(in alloc;
-        "the policy leads to more than 4095 contexts: {declared} of them are declared, and the lines below lead to the others"
+    let cause = joined(
+        alloc,
+        &[
+            "the policy leads to more than 4095 contexts: ",
+            declared.as_str(),
+            " of them are declared, and the lines below lead to the others",
+        ],
     )?;
     findings.push(bare(None, "contexts", cause))?;
     'versions: for version in parts.versions.as_slice() {
@@ -84,11 +96,11 @@ fn too_many(alloc: Global, source: Source<'_>) -> Result<Vec<Finding>, Stop> {
 }
 
 /// Puts the lines that give a type, each with what it leads to.
-fn put_leading(
+fn put_leading<'t>(
     alloc: Global,
-    source: Source<'_>,
+    source: Source<'t>,
     rules: &[RuleLine],
-    findings: &mut Vec<Finding>,
+    findings: &mut Vec<Finding<'t>>,
 ) -> Result<(), Stop> {
     'rules: for rule in rules {
         let cause = match &rule.verdict {
@@ -100,32 +112,4 @@ fn put_leading(
         findings.push(at_line(alloc, source, rule.line, "contexts", cause)?)?;
     }
     Ok(())
-}
-
-/// A finding about a whole line.
-fn at_line(
-    alloc: Global,
-    source: Source<'_>,
-    line: u32,
-    kind: &'static str,
-    cause: String,
-) -> Result<Finding, Memory> {
-    let mut found = bare(Some(line), kind, cause);
-    if let Some(text) = source.line(Some(line)) {
-        found.text = Some(shown(alloc, text.as_bytes())?);
-    }
-    Ok(found)
-}
-
-fn bare(line: Option<u32>, kind: &'static str, cause: String) -> Finding {
-    Finding {
-        line,
-        kind,
-        cause,
-        text: None,
-        column: None,
-        length: None,
-        form: None,
-        nearest: None,
-    }
 }

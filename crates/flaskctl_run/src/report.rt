@@ -1,9 +1,9 @@
 //! Answers as texts: in lines for each result, or as one object of JSON.
 
 use crate::stop::Stop;
-use serde::Serialize;
+use fault_causes::{put_all, put_number};
+use flask_sid::Memory;
 use std::alloc::Global;
-use std::fmt::Display;
 
 /// How an answer is written.
 #[derive(Clone, Copy, Debug, PartialEq, Eq)]
@@ -19,39 +19,59 @@ pub struct Report {
     pub status: u8,
 }
 
+/// A result of a command.
+pub(crate) trait Listed {
+    /// Puts it as lines, without the end of the last one.
+    fn put_lines(&self, out: &mut String) -> Result<(), Memory>;
+
+    /// Puts it as an object of JSON.
+    fn put_json(&self, out: &mut String) -> Result<(), Memory>;
+}
+
 /// The answer of a command with these results.
-pub(crate) fn report_of<T: Display + Serialize>(
+pub(crate) fn report_of<T: Listed>(
     alloc: Global,
     form: Form,
     status: u8,
     results: &[T],
 ) -> Result<Report, Stop> {
-    let text = match form {
-        Form::Lines => lines_of(alloc, results)?,
-        Form::Json => json_of(alloc, status, results)?,
-    };
+    let mut text = String::new(alloc);
+    match form {
+        Form::Lines => put_lines(&mut text, results)?,
+        Form::Json => {
+            put_status(&mut text, status)?;
+            put_list(&mut text, "results", results)?;
+            put_all(&mut text, &["}\n"])?;
+        }
+    }
     Ok(Report { text, status })
 }
 
-/// Each result in lines of its own.
-fn lines_of<T: Display>(alloc: Global, results: &[T]) -> Result<String, Stop> {
-    let mut text = String::new(alloc);
+/// Puts each result in lines of its own.
+pub(crate) fn put_lines<T: Listed>(out: &mut String, results: &[T]) -> Result<(), Memory> {
     'results: for result in results {
-        let line = format!(in alloc; "{result}\n")?;
-        text.push_str(line.as_str())?;
+        result.put_lines(out)?;
+        put_all(out, &["\n"])?;
     }
-    Ok(text)
+    Ok(())
 }
 
-/// One object with the status and a list of the results, in a line.
-pub(crate) fn json_of<T: Serialize>(
-    alloc: Global,
-    status: u8,
+/// Puts the beginning of an object, with the exit status.
+pub(crate) fn put_status(out: &mut String, status: u8) -> Result<(), Memory> {
+    put_all(out, &["{\"status\":"])?;
+    put_number(out, u64::from(status))
+}
+
+/// Puts a member that is a list of results, behind another.
+pub(crate) fn put_list<T: Listed>(
+    out: &mut String,
+    name: &str,
     results: &[T],
-) -> Result<String, Stop> {
-    let Ok(list) = serde_json::to_string(alloc, &results) else {
-        return Err(Stop::Memory);
-    };
-    let list = list.as_str();
-    Ok(format!(in alloc; "{{\"status\":{status},\"results\":{list}}}\n")?)
+) -> Result<(), Memory> {
+    put_all(out, &[",\"", name, "\":["])?;
+    'results: for (at, result) in results.iter().enumerate() {
+        put_all(out, &[if at == 0 { "" } else { "," }])?;
+        result.put_json(out)?;
+    }
+    put_all(out, &["]"])
 }

@@ -1,37 +1,54 @@
 //! `show`: the lines of a session with their answers beside them.
 
 use crate::checking::check;
-use crate::report::{Form, Report, report_of};
+use crate::json::{Value, put_object};
+use crate::report::{Form, Listed, Report, report_of};
 use crate::session::read_session;
 use crate::stop::Stop;
 use crate::wording::{Named, answer_words};
-use fault_causes::{line_count, text_of};
+use fault_causes::{line_count, put_all, put_number, text_of};
+use flask_sid::Memory;
 use policy_versions::compile;
-use serde::Serialize;
 use session_questions::{LineRun, run_session};
 use std::alloc::Global;
-use std::fmt::{self, Display, Formatter};
 use std::sync::Wait;
 
 /// A line of a session, with its answer where it runs.
-#[derive(Debug, Drop, Serialize)]
+#[derive(Drop)]
 struct Shown<'t> {
     line: u32,
     text: &'t str,
     answer: Option<String>,
 }
 
-impl Display for Shown<'_> {
-    fn fmt<W: fmt::Write>(&self, f: &mut Formatter<W>) -> fmt::Result {
-        let (line, text) = (self.line, self.text);
-        write!(f, "{line} {text}")?;
+impl Shown<'_> {
+    fn answer(&self) -> Option<&str> {
         match &self.answer {
-            None => Ok(()),
-            Some(answer) => {
-                let answer = answer.as_str();
-                write!(f, "\n    = {answer}")
-            }
+            None => None,
+            Some(answer) => Some(answer.as_str()),
         }
+    }
+}
+
+impl Listed for Shown<'_> {
+    fn put_lines(&self, out: &mut String) -> Result<(), Memory> {
+        put_number(out, u64::from(self.line))?;
+        put_all(out, &[" ", self.text])?;
+        match self.answer() {
+            None => Ok(()),
+            Some(answer) => put_all(out, &["\n    = ", answer]),
+        }
+    }
+
+    fn put_json(&self, out: &mut String) -> Result<(), Memory> {
+        put_object(
+            out,
+            &[
+                ("line", Value::Number(u64::from(self.line))),
+                ("text", Value::Text(self.text)),
+                ("answer", Value::of_text(self.answer())),
+            ],
+        )
     }
 }
 

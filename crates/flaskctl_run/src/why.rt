@@ -1,26 +1,26 @@
 //! `why`: what a line of a session asked when it was run, and which lines of the policy decided it.
 
-use crate::asking::write_by;
+use crate::asking::{put_by, yes_or_no};
+use crate::calls::no_call;
 use crate::checking::check;
-use crate::report::{Form, Report, report_of};
+use crate::json::{Value, put_object};
+use crate::report::{Form, Listed, Report, report_of};
 use crate::session::read_session;
 use crate::source::Source;
 use crate::stop::Stop;
 use access_vectors::{Asked, class_name, perm_name};
 use control_words::WhyWords;
-use fault_causes::text_of;
-use flask_sid::{Sid, SidTable, Word};
+use fault_causes::{joined, put_all, put_number, text_of};
+use flask_sid::{Memory, Sid, SidTable, Word};
 use policy_answers::{allowing_versions, decision_on};
 use policy_versions::compile;
-use serde::Serialize;
 use session_questions::{LineQuestions, LineRun, run_session};
 use std::alloc::Global;
-use std::fmt::{self, Display, Formatter};
 use std::sync::Wait;
 use text_lines::numeral;
 
 /// A question that a line asked, with the line that decided it, and the versions that would allow it where it was denied.
-#[derive(Debug, Drop, Serialize)]
+#[derive(Drop)]
 struct Reason<'t> {
     version: u8,
     source: &'t str,
@@ -33,31 +33,47 @@ struct Reason<'t> {
     allowing: Vec<u8>,
 }
 
-impl Display for Reason<'_> {
-    fn fmt<W: fmt::Write>(&self, f: &mut Formatter<W>) -> fmt::Result {
-        let answer = if self.allowed { "yes" } else { "no" };
-        let (source, target) = (self.source, self.target);
-        let (class, permission, version) = (self.class, self.permission, self.version);
-        write!(
-            f,
-            "{answer} {source} {target} {class} {permission}, version {version}, "
-        )?;
-        write_by(f, self.line, self.text)?;
-        if !self.allowed {
-            write_allowing(f, self.allowing.as_slice())?;
+impl Listed for Reason<'_> {
+    fn put_lines(&self, out: &mut String) -> Result<(), Memory> {
+        put_all(out, &[yes_or_no(self.allowed), " "])?;
+        put_all(out, &[self.source, " ", self.target, " "])?;
+        put_all(out, &[self.class, " ", self.permission, ", version "])?;
+        put_number(out, u64::from(self.version))?;
+        put_all(out, &[", "])?;
+        put_by(out, self.line, self.text)?;
+        if self.allowed {
+            return Ok(());
         }
-        Ok(())
+        put_allowing(out, self.allowing.as_slice())
+    }
+
+    fn put_json(&self, out: &mut String) -> Result<(), Memory> {
+        put_object(
+            out,
+            &[
+                ("version", Value::Number(u64::from(self.version))),
+                ("source", Value::Text(self.source)),
+                ("target", Value::Text(self.target)),
+                ("class", Value::Text(self.class)),
+                ("permission", Value::Text(self.permission)),
+                ("allowed", Value::Truth(self.allowed)),
+                ("line", Value::of_number(self.line)),
+                ("text", Value::of_text(self.text)),
+                ("allowing", Value::Numbers(self.allowing.as_slice())),
+            ],
+        )
     }
 }
 
-/// Writes which versions would allow what was denied.
-fn write_allowing<W: fmt::Write>(f: &mut Formatter<W>, versions: &[u8]) -> fmt::Result {
+/// Puts which versions would allow what was denied.
+fn put_allowing(out: &mut String, versions: &[u8]) -> Result<(), Memory> {
     if versions.is_empty() {
-        return write!(f, "; no version allows it");
+        return put_all(out, &["; no version allows it"]);
     }
-    write!(f, "; allowed by version")?;
+    put_all(out, &["; allowed by version"])?;
     'versions: for version in versions {
-        write!(f, " {version}")?;
+        put_all(out, &[" "])?;
+        put_number(out, u64::from(*version))?;
     }
     Ok(())
 }
@@ -77,9 +93,7 @@ pub(crate) fn why<R: Wait>(
     };
     let run = run_session(rt, alloc, session.into_parts(), &catalogue)?;
     let Some(questions) = questions_of(run.lines.as_slice(), number) else {
-        return Err(Stop::Usage(format!(in alloc;
-            "line {number} is no client's call: it asks nothing"
-        )?));
+        return Err(Stop::Usage(no_call(alloc, bytes, run.lines.as_slice(), number)?));
     };
     let source = Source {
         bytes,
@@ -128,7 +142,7 @@ fn line_of(alloc: Global, word: &str) -> Result<u32, Stop> {
             return Ok(line);
         }
     }
-    Err(Stop::Usage(format!(in alloc; "'{word}' is no number of a line")?))
+    Err(Stop::Usage(joined(alloc, &["'", word, "' is no number of a line"])?))
 }
 
 /// A question in words, with the line that decides it.

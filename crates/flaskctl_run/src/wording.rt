@@ -3,7 +3,7 @@
 use crate::stop::Stop;
 use answer_text::{Worded, put_aborted};
 use change_protocol::{AckAll, NotifyAllFault, Said};
-use fault_causes::text_of;
+use fault_causes::{joined, put_all, put_number, text_of};
 use flask_sid::{Memory, Piece, SidTable};
 use manager_history::Answer;
 use session_forms::Manager;
@@ -74,7 +74,20 @@ fn of_client(
         Manager::Process => "process",
         Manager::Port => "port",
     };
-    Ok(format!(in alloc; "{name} {manager} {number}{got}")?)
+    put_client(alloc, name, manager, number, got)
+}
+
+fn put_client(
+    alloc: Global,
+    name: &str,
+    manager: &str,
+    number: u32,
+    got: &str,
+) -> Result<String, Stop> {
+    let mut text = joined(alloc, &[name, " ", manager, " "])?;
+    put_number(&mut text, u64::from(number))?;
+    put_all(&mut text, &[got])?;
+    Ok(text)
 }
 
 /// A reply, or that there is none, behind a space.
@@ -90,41 +103,56 @@ fn reply_words(alloc: Global, contexts: &SidTable, got: &Answer<Reply>) -> Resul
 }
 
 fn notified(alloc: Global, said: &Result<u32, NotifyAllFault>) -> Result<String, Stop> {
-    let text = match said {
-        Ok(number) => format!(in alloc; "admin notified {number}")?,
-        Err(NotifyAllFault::Pending(number)) => format!(in alloc; "admin pending {number}")?,
-        Err(NotifyAllFault::NoVersion) => String::from_str(alloc, "admin noversion")?,
-        Err(NotifyAllFault::Spent) => String::from_str(alloc, "admin spent")?,
-        Err(NotifyAllFault::Memory { .. }) => String::from_str(alloc, "admin memory")?,
-    };
+    match said {
+        Ok(number) => numbered(alloc, "admin notified ", *number),
+        Err(NotifyAllFault::Pending(number)) => numbered(alloc, "admin pending ", *number),
+        Err(NotifyAllFault::NoVersion) => Ok(String::from_str(alloc, "admin noversion")?),
+        Err(NotifyAllFault::Spent) => Ok(String::from_str(alloc, "admin spent")?),
+        Err(NotifyAllFault::Memory { .. }) => Ok(String::from_str(alloc, "admin memory")?),
+    }
+}
+
+/// Words, and a number behind them.
+fn numbered(alloc: Global, words: &str, number: u32) -> Result<String, Stop> {
+    let mut text = String::from_str(alloc, words)?;
+    put_number(&mut text, u64::from(number))?;
     Ok(text)
 }
 
 fn updated(alloc: Global, left: [u64; 3]) -> Result<String, Stop> {
-    let [files, processes, ports] = left;
-    Ok(format!(in alloc; "admin updated {files} {processes} {ports}")?)
+    let mut text = String::from_str(alloc, "admin updated")?;
+    'managers: for count in &left {
+        put_all(&mut text, &[" "])?;
+        put_number(&mut text, *count)?;
+    }
+    Ok(text)
 }
 
 fn acknowledged(alloc: Global, acks: Acks) -> Result<String, Stop> {
     match acks.all {
         AckAll::Idle => Ok(String::from_str(alloc, "admin idle")?),
-        AckAll::Complete(number) => Ok(format!(in alloc; "admin complete {number}")?),
+        AckAll::Complete(number) => numbered(alloc, "admin complete ", number),
         AckAll::Waiting => {
             let mut text = String::from_str(alloc, "admin waiting")?;
             'said: for said in &acks.said {
-                let word = said_word(alloc, *said)?;
-                text.push_str(word.as_str())?;
+                put_said(&mut text, *said)?;
             }
             Ok(text)
         }
     }
 }
 
-/// What a manager said, behind a space.
-fn said_word(alloc: Global, said: Said) -> Result<String, Stop> {
+/// Puts what a manager said, behind a space.
+fn put_said(text: &mut String, said: Said) -> Result<(), Memory> {
     match said {
-        Said::Busy(older) => Ok(format!(in alloc; " busy:{older}")?),
-        Said::Behind(left) => Ok(format!(in alloc; " behind:{left}")?),
-        Said::Kept | Said::Idle => Ok(String::from_str(alloc, " kept")?),
+        Said::Busy(older) => {
+            put_all(text, &[" busy:"])?;
+            put_number(text, older as u64)
+        }
+        Said::Behind(left) => {
+            put_all(text, &[" behind:"])?;
+            put_number(text, left as u64)
+        }
+        Said::Kept | Said::Idle => put_all(text, &[" kept"]),
     }
 }
