@@ -120,19 +120,32 @@ fn explained(
     sids: &SidTable,
     questions: &LineQuestions,
 ) -> Result<Report, Stop> {
-    let mut reasons = Vec::new(alloc);
-    let mut status = 0;
-    'questions: for asked in questions.asked.as_slice() {
-        if !asked.yes {
-            status = 1;
-        }
-        reasons.push(reason_of(alloc, source, sids, questions.version, asked)?)?;
-    }
+    let reasons = reasons_of(alloc, source, sids, questions)?;
+    let status = u8::from(reasons.iter().any(|reason| !reason.allowed));
     if reasons.is_empty() && form == Form::Lines {
-        let text = String::from_str(alloc, "the call asked nothing\n")?;
-        return Ok(Report { text, status });
+        return asked_nothing(alloc);
     }
     report_of(alloc, form, status, reasons.as_slice())
+}
+
+fn asked_nothing(alloc: Global) -> Result<Report, Stop> {
+    let text = String::from_str(alloc, "the call asked nothing\n")?;
+    Ok(Report { text, status: 0 })
+}
+
+/// The questions in words, in the order in which they were asked.
+fn reasons_of<'t>(
+    alloc: Global,
+    source: Source<'t>,
+    sids: &'t SidTable,
+    questions: &LineQuestions,
+) -> Result<Vec<Reason<'t>>, Stop> {
+    let mut reasons = Vec::new(alloc);
+    'questions: for asked in questions.asked.as_slice() {
+        let reason = reason_of(alloc, source, sids, questions.version, asked)?;
+        reasons.push(reason)?;
+    }
+    Ok(reasons)
 }
 
 /// The number of a line.
@@ -156,13 +169,11 @@ fn reason_of<'t>(
     let (s, t) = (kind_of(sids, asked.s), kind_of(sids, asked.t));
     let perm = asked.perm;
     let decision = decision_on(source.policy, version, s, t, perm);
-    let mut allowing = Vec::new(alloc);
-    if !asked.yes {
-        let versions = allowing_versions(alloc, source.policy, s, t, perm)?;
-        'versions: for version in versions.as_slice() {
-            allowing.push(*version)?;
-        }
-    }
+    let allowing = if asked.yes {
+        Vec::new(alloc)
+    } else {
+        allowing_versions(alloc, source.policy, s, t, perm)?.into_vec()
+    };
     Ok(Reason {
         version,
         source: text_of(s),
