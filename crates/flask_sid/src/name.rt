@@ -9,14 +9,15 @@ ghost use Rattle.std.specs.Cmp.Rules.{comparing, hashing};
 
 use crate::Memory;
 use crate::word::Word;
+use smallvec::SmallVec;
 use std::alloc::Global;
 use std::hash::{Hash, Hasher};
 use std::marker::Model;
 
-/// A kept name, which contracts see as the list of its bytes.
+/// A kept name, which contracts see as the list of its bytes. Up to 16 bytes lie in the value itself.
 #[derive(Debug, Drop)]
 pub struct Name {
-    bytes: Vec<u8>,
+    bytes: SmallVec<u8, 16>,
 }
 
 impl Model for Name {
@@ -32,18 +33,16 @@ impl Name {
     pub fn of(alloc: Global, word: &Word<'_>) -> Result<Name, Memory>
         ensures { IfOk result (λ name. name ≡ word.now) }
     {
-        Ok(Name {
-            bytes: Vec::from_slice(alloc, word.as_bytes())?,
-        })
+        let mut bytes = SmallVec::new(alloc);
+        bytes.extend_from_slice(word.as_bytes())?;
+        Ok(Name { bytes })
     }
 
     /// Another copy of the name.
     pub fn copy(&self, alloc: Global) -> Result<Name, Memory>
         ensures { IfOk result (λ name. name ≡ self.now) }
     {
-        Ok(Name {
-            bytes: Vec::from_slice(alloc, self.bytes.as_slice())?,
-        })
+        Name::of(alloc, &Word::new(self.bytes.as_slice()))
     }
 
     /// The bytes of the name.

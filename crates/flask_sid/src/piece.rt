@@ -36,9 +36,9 @@ impl Piece {
     pub fn of(alloc: Global, bytes: &[u8]) -> Result<Piece, Memory>
         ensures { IfOk result (λ piece. piece ≡ bytes.now) }
     {
-        Ok(Piece {
-            bytes: SmallVec::from_slice(alloc, bytes)?,
-        })
+        let mut piece = Piece::new(alloc);
+        piece.extend(bytes)?;
+        Ok(piece)
     }
 
     /// Another copy of the piece.
