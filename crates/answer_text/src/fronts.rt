@@ -5,7 +5,7 @@ ghost use Rattle.std.specs.List.{flat_map};
 ghost use Rattle.text_print.specs.Printed.{behind, spaced};
 ghost use Rattle.answer_text.specs.Fronts;
 
-use flask_sid::{Memory, Piece};
+use flask_sid::{Memory, Text};
 use session_forms::Manager;
 use session_print::{client_name, put_manager};
 use session_text::ClientLine;
@@ -22,7 +22,7 @@ pub struct Front {
 }
 
 /// Puts the words in front of a reply, with one space between them.
-pub fn put_front(out: &mut Piece, clients: &[ClientLine], front: Front) -> Result<(), Memory>
+pub fn put_front(out: &mut Text, clients: &[ClientLine], front: Front) -> Result<(), Memory>
     ensures { OnOk result (out.new ≡ out.old ++ spaced (Fronts.front_words clients.now front)) }
 {
     put_number(out, u64::from(front.line))?;
@@ -32,7 +32,7 @@ pub fn put_front(out: &mut Piece, clients: &[ClientLine], front: Front) -> Resul
 }
 
 /// Puts what stands for a reply where a call was aborted, behind a space.
-pub fn put_aborted(out: &mut Piece) -> Result<(), Memory>
+pub fn put_aborted(out: &mut Text) -> Result<(), Memory>
     ensures { OnOk result (out.new ≡ out.old ++ flat_map behind Fronts.aborted_words) }
 {
     put_word(out, b"aborted")

@@ -7,7 +7,7 @@ ghost use Rattle.answer_text.specs.Replies;
 
 use access_vectors::{Perm, class_name, perm_name};
 use file_calls::FileReply;
-use flask_sid::{Memory, Piece, Sid, SidTable};
+use flask_sid::{Memory, Piece, Sid, SidTable, Text};
 use port_calls::PortReply;
 use process_calls::ProcessReply;
 use text_print::{put_label, put_numeral, put_word};
@@ -28,7 +28,7 @@ pub trait Worded {
         ensures { result ≡ is_denial self.now };
 
     /// Puts its words, each behind a space.
-    fn put(&self, out: &mut Piece, contexts: &SidTable) -> Result<(), Memory>
+    fn put(&self, out: &mut Text, contexts: &SidTable) -> Result<(), Memory>
         ensures { OnOk result (out.new ≡ out.old ++ flat_map behind (words contexts.now self.now)) };
 }
 
@@ -41,7 +41,7 @@ impl Worded for FileReply {
         matches!(self, FileReply::Denied { .. })
     }
 
-    fn put(&self, out: &mut Piece, contexts: &SidTable) -> Result<(), Memory> {
+    fn put(&self, out: &mut Text, contexts: &SidTable) -> Result<(), Memory> {
         match self {
             FileReply::Done => put_word(out, b"done"),
             FileReply::Bytes(bytes) => put_data(out, bytes.as_bytes()),
@@ -71,7 +71,7 @@ impl Worded for ProcessReply {
         matches!(self, ProcessReply::Denied { .. })
     }
 
-    fn put(&self, out: &mut Piece, contexts: &SidTable) -> Result<(), Memory> {
+    fn put(&self, out: &mut Text, contexts: &SidTable) -> Result<(), Memory> {
         match self {
             ProcessReply::Done => put_word(out, b"done"),
             ProcessReply::Num(number) => put_told(out, *number),
@@ -98,7 +98,7 @@ impl Worded for PortReply {
         matches!(self, PortReply::Denied { .. })
     }
 
-    fn put(&self, out: &mut Piece, contexts: &SidTable) -> Result<(), Memory> {
+    fn put(&self, out: &mut Text, contexts: &SidTable) -> Result<(), Memory> {
         match self {
             PortReply::Done => put_word(out, b"done"),
             PortReply::Bytes(bytes) => put_data(out, bytes.as_bytes()),
@@ -117,7 +117,7 @@ impl Worded for PortReply {
 }
 
 /// Puts bytes that were read: how many, and where there are any, these.
-fn put_data(out: &mut Piece, bytes: &[u8]) -> Result<(), Memory>
+fn put_data(out: &mut Text, bytes: &[u8]) -> Result<(), Memory>
     ensures { OnOk result (out.new ≡ out.old ++ flat_map behind (Replies.data_words bytes.now)) }
 {
     put_word(out, b"data")?;
@@ -129,7 +129,7 @@ fn put_data(out: &mut Piece, bytes: &[u8]) -> Result<(), Memory>
 }
 
 /// Puts names that were listed: how many, and these.
-fn put_names(out: &mut Piece, names: &[Piece]) -> Result<(), Memory>
+fn put_names(out: &mut Text, names: &[Piece]) -> Result<(), Memory>
     ensures { OnOk result (out.new ≡ out.old ++ flat_map behind (Replies.names_words names.now)) }
 {
     put_word(out, b"names")?;
@@ -137,7 +137,7 @@ fn put_names(out: &mut Piece, names: &[Piece]) -> Result<(), Memory>
     put_each(out, names)
 }
 
-fn put_each(out: &mut Piece, names: &[Piece]) -> Result<(), Memory>
+fn put_each(out: &mut Text, names: &[Piece]) -> Result<(), Memory>
     ensures { OnOk result (out.new ≡ out.old ++ flat_map behind names.now) }
 {
     'names: for name in names {
@@ -147,7 +147,7 @@ fn put_each(out: &mut Piece, names: &[Piece]) -> Result<(), Memory>
 }
 
 /// Puts the context of a label, and a number.
-fn put_stat(out: &mut Piece, contexts: &SidTable, sid: Sid, number: u64) -> Result<(), Memory>
+fn put_stat(out: &mut Text, contexts: &SidTable, sid: Sid, number: u64) -> Result<(), Memory>
     ensures { OnOk result (out.new ≡ out.old ++ flat_map behind (Replies.stat_words contexts.now sid number)) }
 {
     put_word(out, b"stat")?;
@@ -155,14 +155,14 @@ fn put_stat(out: &mut Piece, contexts: &SidTable, sid: Sid, number: u64) -> Resu
     put_numeral(out, number)
 }
 
-fn put_told(out: &mut Piece, number: u32) -> Result<(), Memory>
+fn put_told(out: &mut Text, number: u32) -> Result<(), Memory>
     ensures { OnOk result (out.new ≡ out.old ++ flat_map behind (Replies.told_words number)) }
 {
     put_word(out, b"num")?;
     put_numeral(out, u64::from(number))
 }
 
-fn put_denial(out: &mut Piece, perm: Perm) -> Result<(), Memory>
+fn put_denial(out: &mut Text, perm: Perm) -> Result<(), Memory>
     ensures { OnOk result (out.new ≡ out.old ++ flat_map behind (Replies.denial_words perm)) }
 {
     put_word(out, b"denied")?;

@@ -7,7 +7,7 @@ ghost use Rattle.audit_log.specs.Texts;
 
 use crate::audited::AuditLine;
 use access_vectors::{Asked, class_name, perm_name};
-use flask_sid::{Memory, Piece, SidTable};
+use flask_sid::{Memory, Piece, SidTable, Text};
 use std::alloc::Global;
 use text_print::{put_label, put_numeral, put_word};
 
@@ -16,14 +16,14 @@ use text_print::{put_label, put_numeral, put_word};
 pub fn text(alloc: Global, line: &AuditLine, sids: &SidTable, name: &[u8]) -> Result<Piece, Memory>
     ensures { IfOk result (λ piece. piece ≡ Texts.line_text sids.now name.now line.now) }
 {
-    let mut out = Piece::new(alloc);
+    let mut out = Text::new(alloc);
     put_text(&mut out, line, sids, name)?;
-    Ok(out)
+    Ok(out.into_piece())
 }
 
 /// Puts an audit line with its line end.
 pub fn put_text(
-    out: &mut Piece,
+    out: &mut Text,
     line: &AuditLine,
     sids: &SidTable,
     name: &[u8],
@@ -36,7 +36,7 @@ pub fn put_text(
 }
 
 /// Puts which call it is, and how a question of it was answered.
-fn put_call(out: &mut Piece, line: &AuditLine, name: &[u8]) -> Result<(), Memory>
+fn put_call(out: &mut Text, line: &AuditLine, name: &[u8]) -> Result<(), Memory>
     ensures { OnOk result (out.new ≡ out.old ++ spaced (Texts.call_words name.now line.now)) }
 {
     out.extend(b"audit")?;
@@ -46,7 +46,7 @@ fn put_call(out: &mut Piece, line: &AuditLine, name: &[u8]) -> Result<(), Memory
 }
 
 /// Puts the policy number, and ends the line.
-fn put_policy(out: &mut Piece, number: u32) -> Result<(), Memory>
+fn put_policy(out: &mut Text, number: u32) -> Result<(), Memory>
     ensures { OnOk result (out.new ≡ out.old ++ (flat_map behind (Texts.policy_words number) ++ 10 ∷ [])) }
 {
     put_word(out, b"policy")?;
@@ -55,7 +55,7 @@ fn put_policy(out: &mut Piece, number: u32) -> Result<(), Memory>
 }
 
 /// Puts a question, each word behind a space: source and target as contexts, class and permission.
-fn put_question(out: &mut Piece, asked: &Asked, sids: &SidTable) -> Result<(), Memory>
+fn put_question(out: &mut Text, asked: &Asked, sids: &SidTable) -> Result<(), Memory>
     ensures { OnOk result (out.new ≡ out.old ++ flat_map behind (Texts.question_words sids.now asked.now)) }
 {
     let perm = asked.perm;

@@ -12,6 +12,7 @@ mod piece;
 mod rows;
 mod sid;
 mod sid_table;
+mod text;
 mod word;
 
 pub use context::{Context, ContextFault, ContextOf, context_form, kept};
@@ -21,4 +22,5 @@ pub use piece::Piece;
 pub use rows::Rows;
 pub use sid::Sid;
 pub use sid_table::{InternFault, MOST_CONTEXTS, SidTable};
+pub use text::Text;
 pub use word::{Word, cut};

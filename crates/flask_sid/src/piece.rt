@@ -41,6 +41,15 @@ impl Piece {
         Ok(piece)
     }
 
+    /// The piece of these bytes, which are not copied.
+    pub(crate) fn of_vec(bytes: Vec<u8>) -> Piece
+        ensures { result ≡ bytes.items }
+    {
+        Piece {
+            bytes: SmallVec::from_vec(bytes),
+        }
+    }
+
     /// Another copy of the piece.
     pub fn copy(&self, alloc: Global) -> Result<Piece, Memory>
         ensures { IfOk result (λ piece. piece ≡ self.now) }

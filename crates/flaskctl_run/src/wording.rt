@@ -4,7 +4,7 @@ use crate::stop::Stop;
 use answer_text::{Worded, put_aborted};
 use change_protocol::{AckAll, NotifyAllFault, Said};
 use fault_causes::{joined, put_all, put_number, text_of};
-use flask_sid::{Memory, Piece, SidTable};
+use flask_sid::{Memory, SidTable, Text};
 use manager_history::Answer;
 use session_forms::Manager;
 use session_managers::{Acks, Reply};
@@ -91,8 +91,8 @@ fn put_client(
 }
 
 /// A reply, or that there is none, behind a space.
-fn reply_words(alloc: Global, contexts: &SidTable, got: &Answer<Reply>) -> Result<Piece, Memory> {
-    let mut words = Piece::new(alloc);
+fn reply_words(alloc: Global, contexts: &SidTable, got: &Answer<Reply>) -> Result<Text, Memory> {
+    let mut words = Text::new(alloc);
     match got {
         Answer::Aborted => put_aborted(&mut words)?,
         Answer::Did(Reply::File(reply)) => reply.put(&mut words, contexts)?,

@@ -5,7 +5,7 @@ ghost use Rattle.flaskd_run.specs.Serial;
 
 use crate::texts::{put_acks, put_admin, put_client, put_got, put_notice, put_updated};
 use change_protocol::NotifyAllFault;
-use flask_sid::{Memory, Piece, SidTable};
+use flask_sid::{Memory, SidTable, Text};
 use manager_history::Answer;
 use session_forms::Manager;
 use session_managers::{Acks, Reply};
@@ -48,7 +48,7 @@ fn name_of(clients: &[ClientLine], client: u8) -> &[u8]
 
 /// Puts a line's answer, where these contexts have identifiers.
 pub fn put_answer(
-    out: &mut Piece,
+    out: &mut Text,
     contexts: &SidTable,
     clients: &[ClientLine],
     line: u32,

@@ -12,7 +12,7 @@ use crate::paths::PathAnswer;
 use crate::texts::put_perm;
 use audit_allow::type_name;
 use flask_io::Sink;
-use flask_sid::{Memory, Piece};
+use flask_sid::{Memory, Text};
 use flow_query::Hop;
 use policy_model::PolicyParts;
 use run_output::{RunStop, put_line};
@@ -44,7 +44,7 @@ pub(crate) fn write_words<K: Sink>(alloc: Global, words: &[u8], sink: &mut K) ->
     ensures err { OnErr result (AddsFront (K.written sink.old) (K.written sink.new) words.now) }
     ensures cause { HasCause (K.faults sink.old) (K.faults sink.new) (result ≡ Err RunStop.WriteFault) }
 {
-    let mut out = Piece::new(alloc);
+    let mut out = Text::new(alloc);
     out.extend(words)?;
     put_line(sink, &out)
 }
@@ -55,7 +55,7 @@ fn write_no_type<K: Sink>(alloc: Global, name: &[u8], sink: &mut K) -> Result<()
     ensures err { OnErr result (AddsFront (K.written sink.old) (K.written sink.new) (codes "notype " ++ name.now ++ codes "\n")) }
     ensures cause { HasCause (K.faults sink.old) (K.faults sink.new) (result ≡ Err RunStop.WriteFault) }
 {
-    let mut out = Piece::new(alloc);
+    let mut out = Text::new(alloc);
     out.extend(b"notype ")?;
     out.extend(name)?;
     out.push(b'\n')?;
@@ -73,14 +73,14 @@ fn write_path<K: Sink>(
     ensures err { OnErr result (AddsFront (K.written sink.old) (K.written sink.new) (Paths.path_text policy.now path.now)) }
     ensures cause { HasCause (K.faults sink.old) (K.faults sink.new) (result ≡ Err RunStop.WriteFault) }
 {
-    let mut out = Piece::new(alloc);
+    let mut out = Text::new(alloc);
     put_length(&mut out, path.len() as u64)?;
     put_line(sink, &out)?;
     write_hops(alloc, policy, path, sink)
 }
 
 /// Puts how many hops a path has.
-fn put_length(out: &mut Piece, hops: u64) -> Result<(), Memory>
+fn put_length(out: &mut Text, hops: u64) -> Result<(), Memory>
     ensures { OnOk result (out.new ≡ out.old ++ (codes "path " ++ decimal hops ++ codes "\n")) }
 {
     out.extend(b"path ")?;
@@ -99,7 +99,7 @@ fn write_hops<K: Sink>(
     ensures err { OnErr result (AddsFront (K.written sink.old) (K.written sink.new) (flat_map (Paths.hop_text policy.now) hops.now)) }
     ensures cause { HasCause (K.faults sink.old) (K.faults sink.new) (result ≡ Err RunStop.WriteFault) }
 {
-    let mut out = Piece::new(alloc);
+    let mut out = Text::new(alloc);
     'hops: for hop in hops {
         out.clear();
         put_hop(&mut out, policy, hop)?;
@@ -109,7 +109,7 @@ fn write_hops<K: Sink>(
 }
 
 /// Puts a hop: its two types, and its question.
-fn put_hop(out: &mut Piece, policy: &PolicyParts, hop: &Hop) -> Result<(), Memory>
+fn put_hop(out: &mut Text, policy: &PolicyParts, hop: &Hop) -> Result<(), Memory>
     ensures { OnOk result (out.new ≡ out.old ++ Paths.hop_text policy.now hop.now) }
 {
     put_type(out, policy, hop.from)?;
@@ -121,7 +121,7 @@ fn put_hop(out: &mut Piece, policy: &PolicyParts, hop: &Hop) -> Result<(), Memor
 }
 
 /// Puts the name of the declared type at a place, and a space.
-fn put_type(out: &mut Piece, policy: &PolicyParts, place: u8) -> Result<(), Memory>
+fn put_type(out: &mut Text, policy: &PolicyParts, place: u8) -> Result<(), Memory>
     ensures { OnOk result (out.new ≡ out.old ++ (kind_at policy.now place ++ codes " ")) }
 {
     out.extend(type_name(policy, place))?;

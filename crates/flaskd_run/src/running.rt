@@ -15,7 +15,7 @@ use crate::lines::{act, caller_of};
 use access_vectors::Decider;
 use audit_log::AuditLog;
 use flask_io::Sink;
-use flask_sid::{Memory, Piece};
+use flask_sid::{Memory, Text};
 use run_output::{RunStop, Setting, put_line};
 use session_managers::SessionManagers;
 use session_text::RunLine;
@@ -29,7 +29,7 @@ fn act_and_put<R: Wait, D: Decider>(
     managed: &mut SessionManagers<'_, D>,
     setting: &Setting<'_>,
     line: RunLine,
-    out: &mut Piece,
+    out: &mut Text,
 ) -> Result<(), Memory>
     requires out { out.old ≡ [] }
     requires formed { IsRun (λ sid. IsTrue ((D.decides managed.old.decider).known sid)) (length setting.now.clients.now) line.run }
@@ -58,7 +58,7 @@ fn run_audited<R: Wait, D: Decider>(
     setting: &Setting<'_>,
     line: RunLine,
     log: &mut AuditLog,
-    out: &mut Piece,
+    out: &mut Text,
 ) -> Result<(), Memory>
     requires out { out.old ≡ [] }
     requires formed { IsRun (λ sid. IsTrue ((D.decides managed.old.decider).known sid)) (length setting.now.clients.now) line.run }
@@ -118,7 +118,7 @@ pub fn run_lines<R: Wait, D: Decider, K: Sink>(
         (Serial.lines_audit setting.now.audited setting.now.policy.now setting.now.contexts.now (D.decides managed.old.decider) managed.old.state lines.items)) }
     ensures cause { HasCause (K.faults sink.old) (K.faults sink.new) (result ≡ Err RunStop.WriteFault) }
 {
-    let mut out = Piece::new(alloc);
+    let mut out = Text::new(alloc);
     'lines: for line in lines {
         out.clear();
         run_audited(rt, alloc, managed, setting, line, log, &mut out)?;

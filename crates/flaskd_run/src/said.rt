@@ -6,7 +6,7 @@ ghost use Rattle.flaskd_run.specs.Said;
 use crate::status::Status;
 use crate::texts::put_perm;
 use access_vectors::Perm;
-use flask_sid::{Memory, Name, Piece};
+use flask_sid::{Memory, Name, Piece, Text};
 use std::alloc::Global;
 use text_lines::{FaultKind, put_number};
 
@@ -14,12 +14,12 @@ use text_lines::{FaultKind, put_number};
 pub fn status_text(alloc: Global, status: &Status) -> Result<Piece, Memory>
     ensures { IfOk result (λ text. text ≡ Said.said_of status.now) }
 {
-    let mut text = Piece::new(alloc);
+    let mut text = Text::new(alloc);
     put_status(&mut text, status)?;
-    Ok(text)
+    Ok(text.into_piece())
 }
 
-fn put_status(out: &mut Piece, status: &Status) -> Result<(), Memory>
+fn put_status(out: &mut Text, status: &Status) -> Result<(), Memory>
     ensures { OnOk result (out.new ≡ out.old ++ Said.said_of status.now) }
 {
     match status {
@@ -47,7 +47,7 @@ fn put_status(out: &mut Piece, status: &Status) -> Result<(), Memory>
 }
 
 /// Puts the faulty line of a text.
-fn put_fault(out: &mut Piece, line: u32, kind: FaultKind) -> Result<(), Memory>
+fn put_fault(out: &mut Text, line: u32, kind: FaultKind) -> Result<(), Memory>
     ensures { OnOk result (out.new ≡ out.old ++ Said.fault_text line kind) }
 {
     out.extend(b"line ")?;
@@ -57,7 +57,7 @@ fn put_fault(out: &mut Piece, line: u32, kind: FaultKind) -> Result<(), Memory>
 }
 
 /// Puts which version breaks which line.
-fn put_place(out: &mut Piece, version: u8, line: u32) -> Result<(), Memory>
+fn put_place(out: &mut Text, version: u8, line: u32) -> Result<(), Memory>
     ensures { OnOk result (out.new ≡ out.old ++ Said.place_text version line) }
 {
     out.extend(b"version ")?;
@@ -67,7 +67,7 @@ fn put_place(out: &mut Piece, version: u8, line: u32) -> Result<(), Memory>
 }
 
 /// Puts what a version allows though a line forbids it.
-fn put_broken(out: &mut Piece, s: &Name, t: &Name, perm: Perm) -> Result<(), Memory>
+fn put_broken(out: &mut Text, s: &Name, t: &Name, perm: Perm) -> Result<(), Memory>
     ensures { OnOk result (out.new ≡ out.old ++ Said.forbidden_text s.now t.now perm) }
 {
     out.extend(broken_front())?;
@@ -76,7 +76,7 @@ fn put_broken(out: &mut Piece, s: &Name, t: &Name, perm: Perm) -> Result<(), Mem
 }
 
 /// Puts two types, with a space behind each.
-fn put_types(out: &mut Piece, s: &Name, t: &Name) -> Result<(), Memory>
+fn put_types(out: &mut Text, s: &Name, t: &Name) -> Result<(), Memory>
     ensures { OnOk result (out.new ≡ out.old ++ Said.types_text s.now t.now) }
 {
     out.extend(s.as_bytes())?;
@@ -86,7 +86,7 @@ fn put_types(out: &mut Piece, s: &Name, t: &Name) -> Result<(), Memory>
 }
 
 /// Puts a number between two texts.
-fn put_bound(out: &mut Piece, before: &[u8], bound: u64, behind: &[u8]) -> Result<(), Memory>
+fn put_bound(out: &mut Text, before: &[u8], bound: u64, behind: &[u8]) -> Result<(), Memory>
     ensures { OnOk result (out.new ≡ out.old ++ (before.now ++ decimal bound ++ behind.now)) }
 {
     out.extend(before)?;

@@ -17,7 +17,7 @@ use access_vectors::Decider;
 use audit_log::AuditLog;
 use file_calls::{FileOpening, Node};
 use flask_io::Sink;
-use flask_sid::{Memory, Piece, Rows, Sid, SidTable};
+use flask_sid::{Memory, Rows, Sid, SidTable, Text};
 use port_calls::{LabelledPort, PortOpening};
 use process_calls::ProcessOpening;
 use run_output::{RunStop, Setting, put_line, write_audit};
@@ -75,7 +75,7 @@ fn write_summary<D: Decider, K: Sink>(
     ensures err { OnErr result (AddsFront (K.written sink.old) (K.written sink.new) (Serial.summary_of managed.now.state)) }
     ensures cause { HasCause (K.faults sink.old) (K.faults sink.new) (result ≡ Err RunStop.WriteFault) }
 {
-    let mut out = Piece::new(alloc);
+    let mut out = Text::new(alloc);
     let (calls, denied, changes) = managed.counts();
     put_summary(&mut out, calls, denied, changes)?;
     put_line(sink, &out)

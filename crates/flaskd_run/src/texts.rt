@@ -7,7 +7,7 @@ ghost use Rattle.flaskd_run.specs.Texts;
 use access_vectors::{Perm, class_name, perm_name};
 use change_protocol::{AckAll, NotifyAllFault, Said};
 use file_calls::FileReply;
-use flask_sid::{Context, Memory, Piece, Sid, SidTable};
+use flask_sid::{Context, Memory, Piece, Sid, SidTable, Text};
 use manager_history::Answer;
 use port_calls::PortReply;
 use process_calls::ProcessReply;
@@ -16,7 +16,7 @@ use session_managers::{Acks, Reply};
 use text_lines::put_number;
 
 /// Puts what a call got. The labels of a reply are identifiers of these contexts.
-pub fn put_got(out: &mut Piece, contexts: &SidTable, got: &Answer<Reply>) -> Result<(), Memory>
+pub fn put_got(out: &mut Text, contexts: &SidTable, got: &Answer<Reply>) -> Result<(), Memory>
     ensures { OnOk result (out.new ≡ out.old ++ Texts.got_text contexts.now got.now) }
 {
     match got {
@@ -26,7 +26,7 @@ pub fn put_got(out: &mut Piece, contexts: &SidTable, got: &Answer<Reply>) -> Res
 }
 
 /// Puts a reply, whose labels are identifiers of these contexts.
-fn put_reply(out: &mut Piece, contexts: &SidTable, reply: &Reply) -> Result<(), Memory>
+fn put_reply(out: &mut Text, contexts: &SidTable, reply: &Reply) -> Result<(), Memory>
     ensures { OnOk result (out.new ≡ out.old ++ Texts.any_reply_text contexts.now reply.now) }
 {
     match reply {
@@ -37,7 +37,7 @@ fn put_reply(out: &mut Piece, contexts: &SidTable, reply: &Reply) -> Result<(), 
 }
 
 /// Puts a reply of the file manager, whose labels are identifiers of these contexts.
-fn put_file_reply(out: &mut Piece, contexts: &SidTable, reply: &FileReply) -> Result<(), Memory>
+fn put_file_reply(out: &mut Text, contexts: &SidTable, reply: &FileReply) -> Result<(), Memory>
     ensures { OnOk result (out.new ≡ out.old ++ Texts.reply_text contexts.now reply.now) }
 {
     match reply {
@@ -61,7 +61,7 @@ fn put_file_reply(out: &mut Piece, contexts: &SidTable, reply: &FileReply) -> Re
 
 /// Puts a reply of the process manager, whose labels are identifiers of these contexts.
 fn put_process_reply(
-    out: &mut Piece,
+    out: &mut Text,
     contexts: &SidTable,
     reply: &ProcessReply,
 ) -> Result<(), Memory>
@@ -83,7 +83,7 @@ fn put_process_reply(
     }
 }
 
-fn put_num(out: &mut Piece, number: u32) -> Result<(), Memory>
+fn put_num(out: &mut Text, number: u32) -> Result<(), Memory>
     ensures { OnOk result (out.new ≡ out.old ++ Texts.num_text number) }
 {
     out.extend(b"num ")?;
@@ -91,7 +91,7 @@ fn put_num(out: &mut Piece, number: u32) -> Result<(), Memory>
 }
 
 /// Puts a reply of the port manager, whose labels are identifiers of these contexts.
-fn put_port_reply(out: &mut Piece, contexts: &SidTable, reply: &PortReply) -> Result<(), Memory>
+fn put_port_reply(out: &mut Text, contexts: &SidTable, reply: &PortReply) -> Result<(), Memory>
     ensures { OnOk result (out.new ≡ out.old ++ Texts.port_reply_text contexts.now reply.now) }
 {
     match reply {
@@ -111,7 +111,7 @@ fn put_port_reply(out: &mut Piece, contexts: &SidTable, reply: &PortReply) -> Re
 }
 
 /// Puts names that were listed: how many, and then each behind a space.
-fn put_names(out: &mut Piece, names: &[Piece]) -> Result<(), Memory>
+fn put_names(out: &mut Text, names: &[Piece]) -> Result<(), Memory>
     ensures { OnOk result (out.new ≡ out.old ++ Texts.names_text names.now) }
 {
     out.extend(b"names ")?;
@@ -119,7 +119,7 @@ fn put_names(out: &mut Piece, names: &[Piece]) -> Result<(), Memory>
     put_behind_spaces(out, names)
 }
 
-fn put_behind_spaces(out: &mut Piece, names: &[Piece]) -> Result<(), Memory>
+fn put_behind_spaces(out: &mut Text, names: &[Piece]) -> Result<(), Memory>
     ensures { OnOk result (out.new ≡ out.old ++ Texts.behind_spaces names.now) }
 {
     match names {
@@ -133,7 +133,7 @@ fn put_behind_spaces(out: &mut Piece, names: &[Piece]) -> Result<(), Memory>
 }
 
 /// Puts the context of a label, and a number.
-fn put_stat(out: &mut Piece, contexts: &SidTable, sid: Sid, number: u64) -> Result<(), Memory>
+fn put_stat(out: &mut Text, contexts: &SidTable, sid: Sid, number: u64) -> Result<(), Memory>
     ensures { OnOk result (out.new ≡ out.old ++ Texts.stat_text (context_with contexts.now sid) number) }
 {
     out.extend(b"stat ")?;
@@ -143,7 +143,7 @@ fn put_stat(out: &mut Piece, contexts: &SidTable, sid: Sid, number: u64) -> Resu
 }
 
 /// Puts the context of a label. The definition gives a number that was not given a context of empty names.
-fn put_label(out: &mut Piece, contexts: &SidTable, sid: Sid) -> Result<(), Memory>
+fn put_label(out: &mut Text, contexts: &SidTable, sid: Sid) -> Result<(), Memory>
     ensures { OnOk result (out.new ≡ out.old ++ Texts.context_text (context_with contexts.now sid)) }
 {
     match contexts.context(sid) {
@@ -152,7 +152,7 @@ fn put_label(out: &mut Piece, contexts: &SidTable, sid: Sid) -> Result<(), Memor
     }
 }
 
-fn put_context(out: &mut Piece, context: &Context) -> Result<(), Memory>
+fn put_context(out: &mut Text, context: &Context) -> Result<(), Memory>
     ensures { OnOk result (out.new ≡ out.old ++ Texts.context_text context.now) }
 {
     out.extend(context.user.as_bytes())?;
@@ -162,7 +162,7 @@ fn put_context(out: &mut Piece, context: &Context) -> Result<(), Memory>
     out.extend(context.kind.as_bytes())
 }
 
-fn put_data(out: &mut Piece, bytes: &[u8]) -> Result<(), Memory>
+fn put_data(out: &mut Text, bytes: &[u8]) -> Result<(), Memory>
     ensures { OnOk result (out.new ≡ out.old ++ Texts.data_text bytes.now) }
 {
     match bytes {
@@ -176,7 +176,7 @@ fn put_data(out: &mut Piece, bytes: &[u8]) -> Result<(), Memory>
     }
 }
 
-fn put_denial(out: &mut Piece, perm: Perm) -> Result<(), Memory>
+fn put_denial(out: &mut Text, perm: Perm) -> Result<(), Memory>
     ensures { OnOk result (out.new ≡ out.old ++ (codes "denied " ++ Texts.perm_text perm)) }
 {
     out.extend(b"denied ")?;
@@ -184,7 +184,7 @@ fn put_denial(out: &mut Piece, perm: Perm) -> Result<(), Memory>
 }
 
 /// Puts a permission with its class.
-pub fn put_perm(out: &mut Piece, perm: Perm) -> Result<(), Memory>
+pub fn put_perm(out: &mut Text, perm: Perm) -> Result<(), Memory>
     ensures { OnOk result (out.new ≡ out.old ++ Texts.perm_text perm) }
 {
     out.extend(class_name(perm.class()).as_bytes())?;
@@ -194,7 +194,7 @@ pub fn put_perm(out: &mut Piece, perm: Perm) -> Result<(), Memory>
 
 /// Puts the front of a client's line, up to what it got.
 pub fn put_client(
-    out: &mut Piece,
+    out: &mut Text,
     line: u32,
     name: &[u8],
     manager: Manager,
@@ -222,7 +222,7 @@ fn manager_between(manager: Manager) -> &'static [u8]
 }
 
 /// Puts the front of an administrator's line, up to what it got.
-pub fn put_admin(out: &mut Piece, line: u32) -> Result<(), Memory>
+pub fn put_admin(out: &mut Text, line: u32) -> Result<(), Memory>
     ensures { OnOk result (out.new ≡ out.old ++ Texts.admin_front line) }
 {
     put_number(out, u64::from(line))?;
@@ -230,7 +230,7 @@ pub fn put_admin(out: &mut Piece, line: u32) -> Result<(), Memory>
 }
 
 /// Puts what a notice got.
-pub fn put_notice(out: &mut Piece, said: &Result<u32, NotifyAllFault>) -> Result<(), Memory>
+pub fn put_notice(out: &mut Text, said: &Result<u32, NotifyAllFault>) -> Result<(), Memory>
     ensures { OnOk result (out.new ≡ out.old ++ Texts.notice_text said.now) }
 {
     match said {
@@ -249,14 +249,14 @@ pub fn put_notice(out: &mut Piece, said: &Result<u32, NotifyAllFault>) -> Result
 }
 
 /// Puts what an update got.
-pub fn put_updated(out: &mut Piece, left: &[u64]) -> Result<(), Memory>
+pub fn put_updated(out: &mut Text, left: &[u64]) -> Result<(), Memory>
     ensures { OnOk result (out.new ≡ out.old ++ Texts.updated_text left.now) }
 {
     out.extend(b"updated")?;
     put_numbers(out, left)
 }
 
-fn put_numbers(out: &mut Piece, numbers: &[u64]) -> Result<(), Memory>
+fn put_numbers(out: &mut Text, numbers: &[u64]) -> Result<(), Memory>
     ensures { OnOk result (out.new ≡ out.old ++ Texts.numbers_text numbers.now) }
 {
     match numbers {
@@ -270,7 +270,7 @@ fn put_numbers(out: &mut Piece, numbers: &[u64]) -> Result<(), Memory>
 }
 
 /// Puts what an acknowledgement got.
-pub fn put_acks(out: &mut Piece, acks: &Acks) -> Result<(), Memory>
+pub fn put_acks(out: &mut Text, acks: &Acks) -> Result<(), Memory>
     ensures { OnOk result (out.new ≡ out.old ++ Texts.ack_text acks.now) }
 {
     match acks.all {
@@ -286,7 +286,7 @@ pub fn put_acks(out: &mut Piece, acks: &Acks) -> Result<(), Memory>
     }
 }
 
-fn put_items(out: &mut Piece, said: &[Said]) -> Result<(), Memory>
+fn put_items(out: &mut Text, said: &[Said]) -> Result<(), Memory>
     ensures { OnOk result (out.new ≡ out.old ++ Texts.items_text said.now) }
 {
     match said {
@@ -299,7 +299,7 @@ fn put_items(out: &mut Piece, said: &[Said]) -> Result<(), Memory>
     }
 }
 
-fn put_item(out: &mut Piece, said: &Said) -> Result<(), Memory>
+fn put_item(out: &mut Text, said: &Said) -> Result<(), Memory>
     ensures { OnOk result (out.new ≡ out.old ++ Texts.item_text said.now) }
 {
     match said {
@@ -309,7 +309,7 @@ fn put_item(out: &mut Piece, said: &Said) -> Result<(), Memory>
     }
 }
 
-fn put_count(out: &mut Piece, why: &[u8], count: u64) -> Result<(), Memory>
+fn put_count(out: &mut Text, why: &[u8], count: u64) -> Result<(), Memory>
     ensures { OnOk result (out.new ≡ out.old ++ (why.now ++ decimal count)) }
 {
     out.extend(why)?;
@@ -317,7 +317,7 @@ fn put_count(out: &mut Piece, why: &[u8], count: u64) -> Result<(), Memory>
 }
 
 /// Puts the summary's line.
-pub fn put_summary(out: &mut Piece, calls: u64, denied: u64, changes: u64) -> Result<(), Memory>
+pub fn put_summary(out: &mut Text, calls: u64, denied: u64, changes: u64) -> Result<(), Memory>
     ensures { OnOk result (out.new ≡ out.old ++ Texts.summary_text calls denied changes) }
 {
     out.extend(b"calls ")?;

@@ -10,7 +10,7 @@ ghost use Rattle.grant_print.specs.Printed;
 use access_vectors::class_name;
 use audit_allow::{Grant, Learned, type_name};
 use flask_io::Sink;
-use flask_sid::{Memory, Piece};
+use flask_sid::{Memory, Text};
 use policy_model::PolicyParts;
 use policy_print::put_perms;
 use run_output::{RunStop, put_line};
@@ -44,7 +44,7 @@ fn write_grants<K: Sink>(
     ensures err { OnErr result (AddsFront (K.written sink.old) (K.written sink.new) (Printed.grants_text policy.now first.now grants.now)) }
     ensures cause { HasCause (K.faults sink.old) (K.faults sink.new) (result ≡ Err RunStop.WriteFault) }
 {
-    let mut out = Piece::new(alloc);
+    let mut out = Text::new(alloc);
     'grants: for grant in grants {
         out.clear();
         put_grant(&mut out, policy, first, grant)?;
@@ -55,7 +55,7 @@ fn write_grants<K: Sink>(
 
 /// Puts the line of a grant: its first word, the two types, the class, and the permissions.
 fn put_grant(
-    out: &mut Piece,
+    out: &mut Text,
     policy: &PolicyParts,
     first: &[u8],
     grant: &Grant,

@@ -5,7 +5,7 @@ ghost use Rattle.text_print.specs.Printed.{spaced, ended};
 ghost use Rattle.history_text.specs.Histories;
 
 use answer_text::{Front, Worded, put_aborted, put_front};
-use flask_sid::{Memory, Piece, SidTable};
+use flask_sid::{Memory, SidTable, Text};
 use manager_history::Entry;
 use session_forms::Manager;
 use session_print::put_manager;
@@ -13,7 +13,7 @@ use session_text::ClientLine;
 use text_print::put_numeral;
 
 /// Puts the line above a manager's entries, with its line end.
-pub fn put_heading(out: &mut Piece, manager: Manager) -> Result<(), Memory>
+pub fn put_heading(out: &mut Text, manager: Manager) -> Result<(), Memory>
     ensures { OnOk result (out.new ≡ out.old ++ ended (Histories.heading_words manager)) }
 {
     out.extend(b"history")?;
@@ -23,7 +23,7 @@ pub fn put_heading(out: &mut Piece, manager: Manager) -> Result<(), Memory>
 
 /// Puts the line of an entry of a manager's history, with its line end. Labels are identifiers of these contexts.
 pub fn put_entry<K, R: Worded>(
-    out: &mut Piece,
+    out: &mut Text,
     contexts: &SidTable,
     clients: &[ClientLine],
     manager: Manager,
@@ -36,7 +36,7 @@ pub fn put_entry<K, R: Worded>(
 }
 
 fn put_words<K, R: Worded>(
-    out: &mut Piece,
+    out: &mut Text,
     contexts: &SidTable,
     clients: &[ClientLine],
     manager: Manager,
@@ -87,7 +87,7 @@ fn front_of(line: u32, client: u8, manager: Manager, number: u32) -> Front
 }
 
 /// Puts a word of the administrator's, and a policy number.
-fn put_event(out: &mut Piece, word: &[u8], number: u32) -> Result<(), Memory>
+fn put_event(out: &mut Text, word: &[u8], number: u32) -> Result<(), Memory>
     ensures { OnOk result (out.new ≡ out.old ++ spaced (Histories.event_words word.now number)) }
 {
     out.extend(word)?;

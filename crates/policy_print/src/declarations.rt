@@ -5,12 +5,12 @@ ghost use Rattle.std.specs.List.{flat_map};
 ghost use Rattle.text_print.specs.Printed.{behind, ended};
 ghost use Rattle.policy_print.specs.Printed;
 
-use flask_sid::{Memory, Name, Piece};
+use flask_sid::{Memory, Name, Text};
 use policy_model::{AttributeLine, ContextLine, KindLine};
 use text_print::{put_context, put_word};
 
 /// Puts a `type` line for each of these types.
-pub(crate) fn put_kinds(out: &mut Piece, kinds: &[KindLine]) -> Result<(), Memory>
+pub(crate) fn put_kinds(out: &mut Text, kinds: &[KindLine]) -> Result<(), Memory>
     ensures { OnOk result (out.new ≡ out.old ++ Printed.texts_of Printed.kind_words kinds.now) }
 {
     'kinds: for kind in kinds {
@@ -19,7 +19,7 @@ pub(crate) fn put_kinds(out: &mut Piece, kinds: &[KindLine]) -> Result<(), Memor
     Ok(())
 }
 
-fn put_kind(out: &mut Piece, kind: &KindLine) -> Result<(), Memory>
+fn put_kind(out: &mut Text, kind: &KindLine) -> Result<(), Memory>
     ensures { OnOk result (out.new ≡ out.old ++ ended (Printed.kind_words kind.now)) }
 {
     out.extend(b"type")?;
@@ -28,7 +28,7 @@ fn put_kind(out: &mut Piece, kind: &KindLine) -> Result<(), Memory>
 }
 
 /// Puts a `context` line for each of these contexts.
-pub(crate) fn put_contexts(out: &mut Piece, contexts: &[ContextLine]) -> Result<(), Memory>
+pub(crate) fn put_contexts(out: &mut Text, contexts: &[ContextLine]) -> Result<(), Memory>
     ensures { OnOk result (out.new ≡ out.old ++ Printed.texts_of Printed.context_words contexts.now) }
 {
     'contexts: for line in contexts {
@@ -37,7 +37,7 @@ pub(crate) fn put_contexts(out: &mut Piece, contexts: &[ContextLine]) -> Result<
     Ok(())
 }
 
-fn put_context_line(out: &mut Piece, line: &ContextLine) -> Result<(), Memory>
+fn put_context_line(out: &mut Text, line: &ContextLine) -> Result<(), Memory>
     ensures { OnOk result (out.new ≡ out.old ++ ended (Printed.context_words line.now)) }
 {
     out.extend(b"context")?;
@@ -46,7 +46,7 @@ fn put_context_line(out: &mut Piece, line: &ContextLine) -> Result<(), Memory>
 }
 
 /// Puts an `attribute` line for each of these attributes.
-pub(crate) fn put_attributes(out: &mut Piece, attributes: &[AttributeLine]) -> Result<(), Memory>
+pub(crate) fn put_attributes(out: &mut Text, attributes: &[AttributeLine]) -> Result<(), Memory>
     ensures { OnOk result (out.new ≡ out.old ++ Printed.texts_of Printed.attribute_words attributes.now) }
 {
     'attributes: for line in attributes {
@@ -55,7 +55,7 @@ pub(crate) fn put_attributes(out: &mut Piece, attributes: &[AttributeLine]) -> R
     Ok(())
 }
 
-fn put_attribute(out: &mut Piece, line: &AttributeLine) -> Result<(), Memory>
+fn put_attribute(out: &mut Text, line: &AttributeLine) -> Result<(), Memory>
     ensures { OnOk result (out.new ≡ out.old ++ ended (Printed.attribute_words line.now)) }
 {
     out.extend(b"attribute")?;
@@ -64,7 +64,7 @@ fn put_attribute(out: &mut Piece, line: &AttributeLine) -> Result<(), Memory>
     out.push(b'\n')
 }
 
-fn put_names(out: &mut Piece, names: &[Name]) -> Result<(), Memory>
+fn put_names(out: &mut Text, names: &[Name]) -> Result<(), Memory>
     ensures { OnOk result (out.new ≡ out.old ++ flat_map behind names.now) }
 {
     'names: for name in names {

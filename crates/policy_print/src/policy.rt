@@ -7,7 +7,7 @@ ghost use Rattle.policy_print.specs.Same.{IsTextOf};
 
 use crate::declarations::{put_attributes, put_contexts, put_kinds};
 use crate::rules::{put_patterns, put_versions};
-use flask_sid::{Memory, Piece};
+use flask_sid::{Memory, Piece, Text};
 use policy_model::{PolicyParts, PolicyText};
 use std::alloc::Global;
 
@@ -18,14 +18,14 @@ pub fn print(alloc: Global, policy: &PolicyText) -> Result<Piece, Memory>
     ensures text { IfOk result (λ piece. piece ≡ Printed.printed policy.now) }
     ensures again { IfOk result (λ piece. length (lines_of piece) ≤ line_limit → IsTextOf policy.now piece) }
 {
-    let mut out = Piece::new(alloc);
+    let mut out = Text::new(alloc);
     put_policy(&mut out, policy.parts())?;
-    Ok(out)
+    Ok(out.into_piece())
 }
 
 /// Puts the text of a policy.
 #[tactic(auto, unfolding(crate::specs::Printed::printed, crate::specs::Printed::policy_lines))]
-pub fn put_policy(out: &mut Piece, policy: &PolicyParts) -> Result<(), Memory>
+pub fn put_policy(out: &mut Text, policy: &PolicyParts) -> Result<(), Memory>
     ensures { OnOk result (out.new ≡ out.old ++ Printed.printed policy.now) }
 {
     out.extend(b"policy 1\n")?;

@@ -7,11 +7,11 @@ ghost use Rattle.text_print.specs.Printed.{behind, ended, text_of};
 ghost use Rattle.policy_print.specs.Printed;
 
 use access_vectors::{Class, Perm, Vector, class_name, perm_name};
-use flask_sid::{Memory, Piece};
+use flask_sid::{Memory, Text};
 use policy_model::{Pattern, RuleLine, Verdict, Version, Who, WhoOf};
 use text_print::put_word;
 
-fn put_who(out: &mut Piece, who: &Who) -> Result<(), Memory>
+fn put_who(out: &mut Text, who: &Who) -> Result<(), Memory>
     ensures { OnOk result (out.new ≡ out.old ++ behind (Printed.who_word who.now)) }
 {
     match who {
@@ -22,7 +22,7 @@ fn put_who(out: &mut Piece, who: &Who) -> Result<(), Memory>
 }
 
 // Whom a line speaks of, and of which class.
-fn put_subjects(out: &mut Piece, source: &Who, target: &Who, class: Class) -> Result<(), Memory>
+fn put_subjects(out: &mut Text, source: &Who, target: &Who, class: Class) -> Result<(), Memory>
     ensures { OnOk result (out.new ≡ out.old ++ flat_map behind
         (Printed.who_word source.now ∷ Printed.who_word target.now ∷ class_word class ∷ [])) }
 {
@@ -33,7 +33,7 @@ fn put_subjects(out: &mut Piece, source: &Who, target: &Who, class: Class) -> Re
 
 /// Puts the names of the permissions that a vector of a class has, each behind a space.
 #[tactic(auto, unfolding(crate::specs::Printed::held_names))]
-pub fn put_perms(out: &mut Piece, class: Class, perms: Vector) -> Result<(), Memory>
+pub fn put_perms(out: &mut Text, class: Class, perms: Vector) -> Result<(), Memory>
     ensures { OnOk result (out.new ≡ out.old ++ flat_map behind (Printed.held_names class perms)) }
 {
     'indexes: for index in 0..class.perm_count() {
@@ -46,7 +46,7 @@ pub fn put_perms(out: &mut Piece, class: Class, perms: Vector) -> Result<(), Mem
     Ok(())
 }
 
-fn put_pattern(out: &mut Piece, first: &[u8], pattern: &Pattern) -> Result<(), Memory>
+fn put_pattern(out: &mut Text, first: &[u8], pattern: &Pattern) -> Result<(), Memory>
     ensures { OnOk result (out.new ≡ out.old ++ ended (Printed.pattern_words first.now pattern.now)) }
 {
     out.extend(first)?;
@@ -57,7 +57,7 @@ fn put_pattern(out: &mut Piece, first: &[u8], pattern: &Pattern) -> Result<(), M
 
 /// Puts a line with this first word for each of these lines on permissions.
 pub(crate) fn put_patterns(
-    out: &mut Piece,
+    out: &mut Text,
     first: &[u8],
     patterns: &[Pattern],
 ) -> Result<(), Memory>
@@ -69,7 +69,7 @@ pub(crate) fn put_patterns(
     Ok(())
 }
 
-fn put_verdict_word(out: &mut Piece, verdict: &Verdict) -> Result<(), Memory>
+fn put_verdict_word(out: &mut Text, verdict: &Verdict) -> Result<(), Memory>
     ensures { OnOk result (out.new ≡ out.old ++ Printed.verdict_word verdict.now) }
 {
     match verdict {
@@ -80,7 +80,7 @@ fn put_verdict_word(out: &mut Piece, verdict: &Verdict) -> Result<(), Memory>
     }
 }
 
-fn put_verdict(out: &mut Piece, class: Class, verdict: &Verdict) -> Result<(), Memory>
+fn put_verdict(out: &mut Text, class: Class, verdict: &Verdict) -> Result<(), Memory>
     ensures { OnOk result (out.new ≡ out.old ++ flat_map behind (Printed.verdict_words class verdict.now)) }
 {
     match verdict {
@@ -89,7 +89,7 @@ fn put_verdict(out: &mut Piece, class: Class, verdict: &Verdict) -> Result<(), M
     }
 }
 
-fn put_rule(out: &mut Piece, rule: &RuleLine) -> Result<(), Memory>
+fn put_rule(out: &mut Text, rule: &RuleLine) -> Result<(), Memory>
     ensures { OnOk result (out.new ≡ out.old ++ ended (Printed.rule_words rule.now)) }
 {
     put_verdict_word(out, &rule.verdict)?;
@@ -98,7 +98,7 @@ fn put_rule(out: &mut Piece, rule: &RuleLine) -> Result<(), Memory>
     out.push(b'\n')
 }
 
-fn put_rules(out: &mut Piece, rules: &[RuleLine]) -> Result<(), Memory>
+fn put_rules(out: &mut Text, rules: &[RuleLine]) -> Result<(), Memory>
     ensures { OnOk result (out.new ≡ out.old ++ Printed.texts_of Printed.rule_words rules.now) }
 {
     'rules: for rule in rules {
@@ -107,7 +107,7 @@ fn put_rules(out: &mut Piece, rules: &[RuleLine]) -> Result<(), Memory>
     Ok(())
 }
 
-fn put_version(out: &mut Piece, version: &Version) -> Result<(), Memory>
+fn put_version(out: &mut Text, version: &Version) -> Result<(), Memory>
     ensures { OnOk result (out.new ≡ out.old ++ text_of (Printed.version_lines version.now)) }
 {
     out.extend(b"version\n")?;
@@ -115,7 +115,7 @@ fn put_version(out: &mut Piece, version: &Version) -> Result<(), Memory>
 }
 
 /// Puts each version: a `version` line, and its rule lines.
-pub(crate) fn put_versions(out: &mut Piece, versions: &[Version]) -> Result<(), Memory>
+pub(crate) fn put_versions(out: &mut Text, versions: &[Version]) -> Result<(), Memory>
     ensures { OnOk result (out.new ≡ out.old ++ flat_map (λ version. text_of (Printed.version_lines version)) versions.now) }
 {
     'versions: for version in versions {

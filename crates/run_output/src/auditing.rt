@@ -11,7 +11,7 @@ ghost use Rattle.run_output.specs.declared.stop.RunStop.{RunStop};
 use crate::stop::{RunStop, put_line};
 use audit_log::{AuditLine, AuditLog, put_text};
 use flask_io::Sink;
-use flask_sid::{Piece, SidTable};
+use flask_sid::{SidTable, Text};
 use session_text::ClientLine;
 use std::alloc::Global;
 
@@ -27,7 +27,7 @@ fn write_client<K: Sink>(
     ensures err { OnErr result (AddsFront (K.written sink.old) (K.written sink.new) (flat_map (audit.line_text contexts.now name.now) lines.now)) }
     ensures cause { HasCause (K.faults sink.old) (K.faults sink.new) (result ≡ Err RunStop.WriteFault) }
 {
-    let mut out = Piece::new(alloc);
+    let mut out = Text::new(alloc);
     'lines: for line in lines {
         out.clear();
         put_text(&mut out, line, contexts, name)?;

@@ -8,7 +8,7 @@ ghost use Rattle.run_output.specs.declared.stop.RunStop.TheVariants as run_stop;
 
 use crate::writing::{WriteFault, write_line};
 use flask_io::Sink;
-use flask_sid::{Memory, Piece};
+use flask_sid::{Memory, Text};
 
 /// Why a run stopped before its text was written.
 #[derive(Clone, Copy, Debug, PartialEq, Eq)]
@@ -27,7 +27,7 @@ impl From<Memory> for RunStop {
 }
 
 /// Writes a line that was put together.
-pub fn put_line<K: Sink>(sink: &mut K, out: &Piece) -> Result<(), RunStop>
+pub fn put_line<K: Sink>(sink: &mut K, out: &Text) -> Result<(), RunStop>
     ensures ok { OnOk result (Adds (K.written sink.old) (K.written sink.new) out.now) }
     ensures err { OnErr result (AddsFront (K.written sink.old) (K.written sink.new) out.now) }
     ensures why { IfErr result (λ stop. stop ≡ RunStop.WriteFault) }

@@ -6,11 +6,11 @@ ghost use Rattle.session_generator.specs.Generated;
 use access_vectors::Vector;
 use file_calls::{FileCall, FilePath};
 use flask_sid::{Memory, Piece};
+use itoa::Buffer;
 use port_calls::PortCall;
 use process_calls::ProcessCall;
 use session_text::Run;
 use std::alloc::Global;
-use text_lines::put_number;
 
 /// The mode of files that are opened: to read and to write.
 const READ_WRITE: u16 = 3;
@@ -41,7 +41,7 @@ pub fn numbered(alloc: Global, letter: u8, number: u32) -> Result<Piece, Memory>
 {
     let mut word = Piece::new(alloc);
     word.push(letter)?;
-    put_number(&mut word, u64::from(number))?;
+    word.extend(Buffer::new().format(number).as_bytes())?;
     Ok(word)
 }
 

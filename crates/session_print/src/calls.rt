@@ -9,7 +9,7 @@ ghost use Rattle.session_print.specs.CallWords;
 use crate::words::{client_name, put_bind_mode, put_connect_mode, put_label, put_mode, put_path};
 use access_vectors::Vector;
 use file_calls::{FileCall, FilePath};
-use flask_sid::{Memory, Piece, Sid};
+use flask_sid::{Memory, Piece, Sid, Text};
 use policy_model::ContextLine;
 use port_calls::PortCall;
 use process_calls::ProcessCall;
@@ -19,7 +19,7 @@ use text_print::{put_numeral, put_word};
 /// Puts a call of the file manager.
 #[tactic(auto, unfolding(crate::specs::CallWords::file_words))]
 pub fn put_file_call(
-    out: &mut Piece,
+    out: &mut Text,
     contexts: &[ContextLine],
     clients: &[ClientLine],
     call: &FileCall,
@@ -59,7 +59,7 @@ pub fn put_file_call(
 /// Puts a call of the process manager.
 #[tactic(auto, unfolding(crate::specs::CallWords::process_words))]
 pub fn put_process_call(
-    out: &mut Piece,
+    out: &mut Text,
     contexts: &[ContextLine],
     call: &ProcessCall,
 ) -> Result<(), Memory>
@@ -85,7 +85,7 @@ pub fn put_process_call(
 
 /// Puts a call of the port manager.
 #[tactic(auto, unfolding(crate::specs::CallWords::port_words))]
-pub fn put_port_call(out: &mut Piece, call: &PortCall) -> Result<(), Memory>
+pub fn put_port_call(out: &mut Text, call: &PortCall) -> Result<(), Memory>
     ensures { OnOk result (out.new ≡ out.old ++ flat_map behind (CallWords.port_words call.now)) }
 {
     match call {
@@ -105,35 +105,35 @@ pub fn put_port_call(out: &mut Piece, call: &PortCall) -> Result<(), Memory>
     }
 }
 
-fn put_on_path(out: &mut Piece, call: &[u8], path: &FilePath) -> Result<(), Memory>
+fn put_on_path(out: &mut Text, call: &[u8], path: &FilePath) -> Result<(), Memory>
     ensures { OnOk result (out.new ≡ out.old ++ flat_map behind (call.now ∷ Words.path_word path.now ∷ [])) }
 {
     put_word(out, call)?;
     put_path(out, path)
 }
 
-fn put_with_number(out: &mut Piece, call: &[u8], number: u32) -> Result<(), Memory>
+fn put_with_number(out: &mut Text, call: &[u8], number: u32) -> Result<(), Memory>
     ensures { OnOk result (out.new ≡ out.old ++ flat_map behind (call.now ∷ decimal number ∷ [])) }
 {
     put_word(out, call)?;
     put_numeral(out, u64::from(number))
 }
 
-fn put_with_numbers(out: &mut Piece, call: &[u8], first: u32, second: u32) -> Result<(), Memory>
+fn put_with_numbers(out: &mut Text, call: &[u8], first: u32, second: u32) -> Result<(), Memory>
     ensures { OnOk result (out.new ≡ out.old ++ flat_map behind (call.now ∷ decimal first ∷ decimal second ∷ [])) }
 {
     put_with_number(out, call, first)?;
     put_numeral(out, u64::from(second))
 }
 
-fn put_with_datum(out: &mut Piece, call: &[u8], number: u32, datum: &Piece) -> Result<(), Memory>
+fn put_with_datum(out: &mut Text, call: &[u8], number: u32, datum: &Piece) -> Result<(), Memory>
     ensures { OnOk result (out.new ≡ out.old ++ flat_map behind (call.now ∷ decimal number ∷ datum.now ∷ [])) }
 {
     put_with_number(out, call, number)?;
     put_word(out, datum.as_bytes())
 }
 
-fn put_open(out: &mut Piece, slot: u8, path: &FilePath, mode: Vector) -> Result<(), Memory>
+fn put_open(out: &mut Text, slot: u8, path: &FilePath, mode: Vector) -> Result<(), Memory>
     ensures { OnOk result (out.new ≡ out.old ++ flat_map behind
         (codes "open" ∷ decimal slot ∷ Words.path_word path.now ∷ Words.mode_word mode ∷ [])) }
 {
@@ -142,7 +142,7 @@ fn put_open(out: &mut Piece, slot: u8, path: &FilePath, mode: Vector) -> Result<
     put_mode(out, mode)
 }
 
-fn put_read(out: &mut Piece, slot: u8, offset: u32, length: u32) -> Result<(), Memory>
+fn put_read(out: &mut Text, slot: u8, offset: u32, length: u32) -> Result<(), Memory>
     ensures { OnOk result (out.new ≡ out.old ++ flat_map behind
         (codes "read" ∷ decimal slot ∷ decimal offset ∷ decimal length ∷ [])) }
 {
@@ -150,7 +150,7 @@ fn put_read(out: &mut Piece, slot: u8, offset: u32, length: u32) -> Result<(), M
     put_numeral(out, u64::from(length))
 }
 
-fn put_write(out: &mut Piece, slot: u8, offset: u32, datum: &Piece) -> Result<(), Memory>
+fn put_write(out: &mut Text, slot: u8, offset: u32, datum: &Piece) -> Result<(), Memory>
     ensures { OnOk result (out.new ≡ out.old ++ flat_map behind
         (codes "write" ∷ decimal slot ∷ decimal offset ∷ datum.now ∷ [])) }
 {
@@ -158,7 +158,7 @@ fn put_write(out: &mut Piece, slot: u8, offset: u32, datum: &Piece) -> Result<()
     put_word(out, datum.as_bytes())
 }
 
-fn put_list(out: &mut Piece, path: &FilePath, skip: u32) -> Result<(), Memory>
+fn put_list(out: &mut Text, path: &FilePath, skip: u32) -> Result<(), Memory>
     ensures { OnOk result (out.new ≡ out.old ++ flat_map behind (codes "list" ∷ Words.path_word path.now ∷ decimal skip ∷ [])) }
 {
     put_on_path(out, b"list", path)?;
@@ -166,7 +166,7 @@ fn put_list(out: &mut Piece, path: &FilePath, skip: u32) -> Result<(), Memory>
 }
 
 fn put_relabel(
-    out: &mut Piece,
+    out: &mut Text,
     contexts: &[ContextLine],
     path: &FilePath,
     sid: Sid,
@@ -179,7 +179,7 @@ fn put_relabel(
 }
 
 fn put_give(
-    out: &mut Piece,
+    out: &mut Text,
     clients: &[ClientLine],
     slot: u8,
     client: u8,
@@ -193,7 +193,7 @@ fn put_give(
     put_numeral(out, u64::from(target))
 }
 
-fn put_exec(out: &mut Piece, contexts: &[ContextLine], pid: u32, sid: Sid) -> Result<(), Memory>
+fn put_exec(out: &mut Text, contexts: &[ContextLine], pid: u32, sid: Sid) -> Result<(), Memory>
     ensures { OnOk result (out.new ≡ out.old ++ flat_map behind (codes "exec" ∷ decimal pid ∷ Words.context_word contexts.now sid ∷ [])) }
 {
     put_with_number(out, b"exec", pid)?;

@@ -8,7 +8,7 @@ ghost use Rattle.session_print.specs.Printed;
 
 use crate::calls::{put_file_call, put_port_call, put_process_call};
 use crate::words::{client_name, put_manager};
-use flask_sid::{Memory, Piece};
+use flask_sid::{Memory, Text};
 use policy_model::ContextLine;
 use session_forms::Manager;
 use session_text::{ClientLine, Run, RunLine};
@@ -16,7 +16,7 @@ use text_print::{put_numeral, put_word};
 
 /// Puts each line that runs.
 pub fn put_runs(
-    out: &mut Piece,
+    out: &mut Text,
     contexts: &[ContextLine],
     clients: &[ClientLine],
     lines: &[RunLine],
@@ -31,7 +31,7 @@ pub fn put_runs(
 }
 
 fn put_run(
-    out: &mut Piece,
+    out: &mut Text,
     contexts: &[ContextLine],
     clients: &[ClientLine],
     run: &Run,
@@ -74,7 +74,7 @@ fn put_run(
 
 // A client, and the manager that it asks.
 fn put_asked(
-    out: &mut Piece,
+    out: &mut Text,
     clients: &[ClientLine],
     client: u8,
     manager: Manager,

@@ -8,7 +8,7 @@ ghost use Rattle.session_print.specs.Same.{IsTextOf};
 
 use crate::runs::put_runs;
 use crate::setup::put_setup;
-use flask_sid::{Memory, Piece};
+use flask_sid::{Memory, Piece, Text};
 use policy_print::put_policy;
 use session_text::{Session, SessionParts};
 use std::alloc::Global;
@@ -21,13 +21,13 @@ pub fn print(alloc: Global, session: &Session) -> Result<Piece, Memory>
     ensures again { IfOk result (λ piece. length (lines_of piece) ≤ line_limit → IsTextOf session.now piece) }
 {
     let session = session.parts();
-    let mut out = Piece::new(alloc);
+    let mut out = Text::new(alloc);
     put_policy(&mut out, session.policy.parts())?;
     put_below_policy(&mut out, session)?;
-    Ok(out)
+    Ok(out.into_piece())
 }
 
-fn put_below_policy(out: &mut Piece, session: &SessionParts) -> Result<(), Memory>
+fn put_below_policy(out: &mut Text, session: &SessionParts) -> Result<(), Memory>
     ensures { OnOk result (out.new ≡ out.old ++ text_of (Printed.lines_below_policy session.now)) }
 {
     out.extend(b"session\n")?;

@@ -8,14 +8,14 @@ ghost use Rattle.session_print.specs.Printed;
 
 use crate::words::{put_label, put_path};
 use file_calls::Node;
-use flask_sid::{Memory, Piece, Sid};
+use flask_sid::{Memory, Piece, Sid, Text};
 use policy_model::ContextLine;
 use port_calls::LabelledPort;
 use session_text::{ClientLine, SessionParts};
 use text_print::{put_numeral, put_word};
 
 /// Puts the session lines of a session.
-pub fn put_setup(out: &mut Piece, session: &SessionParts) -> Result<(), Memory>
+pub fn put_setup(out: &mut Text, session: &SessionParts) -> Result<(), Memory>
     ensures { OnOk result (out.new ≡ out.old ++ text_of (Printed.setup_lines session.now)) }
 {
     let contexts = session.policy.parts().contexts.as_slice();
@@ -29,7 +29,7 @@ pub fn put_setup(out: &mut Piece, session: &SessionParts) -> Result<(), Memory>
 
 // An `initial` line: whose context, and which.
 fn put_initial(
-    out: &mut Piece,
+    out: &mut Text,
     contexts: &[ContextLine],
     what: &[u8],
     sid: Sid,
@@ -43,7 +43,7 @@ fn put_initial(
 }
 
 fn put_ports(
-    out: &mut Piece,
+    out: &mut Text,
     contexts: &[ContextLine],
     ports: &[LabelledPort],
 ) -> Result<(), Memory>
@@ -55,7 +55,7 @@ fn put_ports(
     Ok(())
 }
 
-fn put_port(out: &mut Piece, contexts: &[ContextLine], line: &LabelledPort) -> Result<(), Memory>
+fn put_port(out: &mut Text, contexts: &[ContextLine], line: &LabelledPort) -> Result<(), Memory>
     ensures { OnOk result (out.new ≡ out.old ++ ended (Printed.labelled_port_words contexts.now line.now)) }
 {
     out.extend(b"port")?;
@@ -64,7 +64,7 @@ fn put_port(out: &mut Piece, contexts: &[ContextLine], line: &LabelledPort) -> R
     out.push(b'\n')
 }
 
-fn put_audit(out: &mut Piece, audit: bool) -> Result<(), Memory>
+fn put_audit(out: &mut Text, audit: bool) -> Result<(), Memory>
     ensures { OnOk result (out.new ≡ out.old ++ text_of (Printed.audit_lines audit)) }
 {
     if audit {
@@ -73,7 +73,7 @@ fn put_audit(out: &mut Piece, audit: bool) -> Result<(), Memory>
     Ok(())
 }
 
-fn put_nodes(out: &mut Piece, contexts: &[ContextLine], nodes: &[Node]) -> Result<(), Memory>
+fn put_nodes(out: &mut Text, contexts: &[ContextLine], nodes: &[Node]) -> Result<(), Memory>
     ensures { OnOk result (out.new ≡ out.old ++ texts_of (Printed.node_words contexts.now) nodes.now) }
 {
     'nodes: for node in nodes {
@@ -82,7 +82,7 @@ fn put_nodes(out: &mut Piece, contexts: &[ContextLine], nodes: &[Node]) -> Resul
     Ok(())
 }
 
-fn put_node(out: &mut Piece, contexts: &[ContextLine], node: &Node) -> Result<(), Memory>
+fn put_node(out: &mut Text, contexts: &[ContextLine], node: &Node) -> Result<(), Memory>
     ensures { OnOk result (out.new ≡ out.old ++ ended (Printed.node_words contexts.now node.now)) }
 {
     put_kind(out, &node.bytes)?;
@@ -92,7 +92,7 @@ fn put_node(out: &mut Piece, contexts: &[ContextLine], node: &Node) -> Result<()
     out.push(b'\n')
 }
 
-fn put_kind(out: &mut Piece, bytes: &Option<Piece>) -> Result<(), Memory>
+fn put_kind(out: &mut Text, bytes: &Option<Piece>) -> Result<(), Memory>
     ensures { OnOk result (out.new ≡ out.old ++ Printed.node_word bytes.now) }
 {
     match bytes {
@@ -101,7 +101,7 @@ fn put_kind(out: &mut Piece, bytes: &Option<Piece>) -> Result<(), Memory>
     }
 }
 
-fn put_datum(out: &mut Piece, bytes: &Option<Piece>) -> Result<(), Memory>
+fn put_datum(out: &mut Text, bytes: &Option<Piece>) -> Result<(), Memory>
     ensures { OnOk result (out.new ≡ out.old ++ flat_map behind (Printed.datum_words bytes.now)) }
 {
     match bytes {
@@ -114,7 +114,7 @@ fn put_datum(out: &mut Piece, bytes: &Option<Piece>) -> Result<(), Memory>
 }
 
 fn put_clients(
-    out: &mut Piece,
+    out: &mut Text,
     contexts: &[ContextLine],
     clients: &[ClientLine],
 ) -> Result<(), Memory>
@@ -126,7 +126,7 @@ fn put_clients(
     Ok(())
 }
 
-fn put_client(out: &mut Piece, contexts: &[ContextLine], client: &ClientLine) -> Result<(), Memory>
+fn put_client(out: &mut Text, contexts: &[ContextLine], client: &ClientLine) -> Result<(), Memory>
     ensures { OnOk result (out.new ≡ out.old ++ ended (Printed.client_words contexts.now client.now)) }
 {
     out.extend(b"client")?;

@@ -7,14 +7,14 @@ ghost use Rattle.session_print.specs.Words;
 
 use access_vectors::Vector;
 use file_calls::FilePath;
-use flask_sid::{Memory, Piece, Sid};
+use flask_sid::{Memory, Piece, Sid, Text};
 use policy_model::ContextLine;
 use session_forms::Manager;
 use session_text::ClientLine;
 use text_print::{put_context, put_word};
 
 /// Puts the declared context that an identifier stands for.
-pub fn put_label(out: &mut Piece, contexts: &[ContextLine], sid: Sid) -> Result<(), Memory>
+pub fn put_label(out: &mut Text, contexts: &[ContextLine], sid: Sid) -> Result<(), Memory>
     ensures { OnOk result (out.new ≡ out.old ++ behind (Words.context_word contexts.now sid)) }
 {
     match contexts.get(usize::from(sid.number()) - 1) {
@@ -34,7 +34,7 @@ pub fn client_name(clients: &[ClientLine], client: u8) -> &[u8]
 }
 
 /// Puts a path.
-pub fn put_path(out: &mut Piece, path: &FilePath) -> Result<(), Memory>
+pub fn put_path(out: &mut Text, path: &FilePath) -> Result<(), Memory>
     ensures { OnOk result (out.new ≡ out.old ++ behind (Words.path_word path.now)) }
 {
     out.push(b' ')?;
@@ -44,7 +44,7 @@ pub fn put_path(out: &mut Piece, path: &FilePath) -> Result<(), Memory>
     }
 }
 
-fn put_parts(out: &mut Piece, parts: &[Piece]) -> Result<(), Memory>
+fn put_parts(out: &mut Text, parts: &[Piece]) -> Result<(), Memory>
     ensures { OnOk result (out.new ≡ out.old ++ flat_map Words.part_text parts.now) }
 {
     'parts: for part in parts {
@@ -55,7 +55,7 @@ fn put_parts(out: &mut Piece, parts: &[Piece]) -> Result<(), Memory>
 }
 
 /// Puts the word of a manager.
-pub fn put_manager(out: &mut Piece, manager: Manager) -> Result<(), Memory>
+pub fn put_manager(out: &mut Text, manager: Manager) -> Result<(), Memory>
     ensures { OnOk result (out.new ≡ out.old ++ behind (Words.manager_word manager)) }
 {
     match manager {
@@ -67,7 +67,7 @@ pub fn put_manager(out: &mut Piece, manager: Manager) -> Result<(), Memory>
 
 /// Puts the mode of an open file.
 #[tactic(auto, unfolding(crate::specs::Words::mode_word))]
-pub fn put_mode(out: &mut Piece, mode: Vector) -> Result<(), Memory>
+pub fn put_mode(out: &mut Text, mode: Vector) -> Result<(), Memory>
     ensures { OnOk result (out.new ≡ out.old ++ behind (Words.mode_word mode)) }
 {
     match mode.bits() {
@@ -83,7 +83,7 @@ pub fn put_mode(out: &mut Piece, mode: Vector) -> Result<(), Memory>
 
 /// Puts the mode of a bound port.
 #[tactic(auto, unfolding(crate::specs::Words::bind_word))]
-pub fn put_bind_mode(out: &mut Piece, mode: Vector) -> Result<(), Memory>
+pub fn put_bind_mode(out: &mut Text, mode: Vector) -> Result<(), Memory>
     ensures { OnOk result (out.new ≡ out.old ++ behind (Words.bind_word mode)) }
 {
     if mode.bits() == 1 {
@@ -95,7 +95,7 @@ pub fn put_bind_mode(out: &mut Piece, mode: Vector) -> Result<(), Memory>
 
 /// Puts the mode of a connection.
 #[tactic(auto, unfolding(crate::specs::Words::connect_word))]
-pub fn put_connect_mode(out: &mut Piece, mode: Vector) -> Result<(), Memory>
+pub fn put_connect_mode(out: &mut Text, mode: Vector) -> Result<(), Memory>
     ensures { OnOk result (out.new ≡ out.old ++ behind (Words.connect_word mode)) }
 {
     if mode.bits() == 8 {

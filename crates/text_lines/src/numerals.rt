@@ -5,7 +5,7 @@ ghost use Rattle.std.specs.List.{list_all};
 ghost use Rattle.std.specs.Str.Parse.{digits_value};
 ghost use Rattle.text_lines.specs.Numerals;
 
-use flask_sid::{Memory, Piece, Word};
+use flask_sid::{Memory, Text, Word};
 use itoa::Buffer;
 
 /// The number that a word of 1 to 10 digits is, which may begin with zeros, or `None` exactly where the word
@@ -21,8 +21,8 @@ pub fn numeral(word: &Word<'_>) -> Option<u64>
     Some(value_of(digits))
 }
 
-/// Adds the decimal form of a number, without leading zeros. After `Memory` the piece is as before.
-pub fn put_number(out: &mut Piece, number: u64) -> Result<(), Memory>
+/// Adds the decimal form of a number, without leading zeros. After `Memory` the text is as before.
+pub fn put_number(out: &mut Text, number: u64) -> Result<(), Memory>
     ensures ok { OnOk result (out.new ≡ out.old ++ decimal number) }
     ensures err { OnErr result (out.new ≡ out.old) }
 {
@@ -33,7 +33,7 @@ pub fn put_number(out: &mut Piece, number: u64) -> Result<(), Memory>
     put_digits(out, number)
 }
 
-fn put_digits(out: &mut Piece, number: u64) -> Result<(), Memory>
+fn put_digits(out: &mut Text, number: u64) -> Result<(), Memory>
     ensures ok { OnOk result (out.new ≡ out.old ++ decimal number) }
     ensures err { OnErr result (out.new ≡ out.old) }
 {

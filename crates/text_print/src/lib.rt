@@ -8,11 +8,11 @@ ghost use Rattle.std.specs.Prelude.{◌≡◌, ◌++◌, OnOk, decimal};
 ghost use Rattle.flask_sid.specs.Contexts.{context_text};
 ghost use Rattle.text_print.specs.Printed;
 
-use flask_sid::{Context, Memory, Piece, Sid, SidTable};
+use flask_sid::{Context, Memory, Sid, SidTable, Text};
 use text_lines::put_number;
 
 /// Puts a word behind a space.
-pub fn put_word(out: &mut Piece, word: &[u8]) -> Result<(), Memory>
+pub fn put_word(out: &mut Text, word: &[u8]) -> Result<(), Memory>
     ensures { OnOk result (out.new ≡ out.old ++ Printed.behind word.now) }
 {
     out.push(b' ')?;
@@ -20,7 +20,7 @@ pub fn put_word(out: &mut Piece, word: &[u8]) -> Result<(), Memory>
 }
 
 /// Puts a number behind a space, without leading zeros.
-pub fn put_numeral(out: &mut Piece, number: u64) -> Result<(), Memory>
+pub fn put_numeral(out: &mut Text, number: u64) -> Result<(), Memory>
     ensures { OnOk result (out.new ≡ out.old ++ Printed.behind (decimal number)) }
 {
     out.push(b' ')?;
@@ -29,7 +29,7 @@ pub fn put_numeral(out: &mut Piece, number: u64) -> Result<(), Memory>
 
 /// Puts a context behind a space.
 #[tactic(auto, unfolding(flask_sid::specs::Contexts::context_text))]
-pub fn put_context(out: &mut Piece, context: &Context) -> Result<(), Memory>
+pub fn put_context(out: &mut Text, context: &Context) -> Result<(), Memory>
     ensures { OnOk result (out.new ≡ out.old ++ Printed.behind (context_text context.now)) }
 {
     out.push(b' ')?;
@@ -42,7 +42,7 @@ pub fn put_context(out: &mut Piece, context: &Context) -> Result<(), Memory>
 
 /// Puts the context of an identifier behind a space. A number that is none has a context of empty names.
 #[tactic(auto, unfolding(flask_sid::specs::Contexts::context_text))]
-pub fn put_label(out: &mut Piece, sids: &SidTable, sid: Sid) -> Result<(), Memory>
+pub fn put_label(out: &mut Text, sids: &SidTable, sid: Sid) -> Result<(), Memory>
     ensures { OnOk result (out.new ≡ out.old ++ Printed.behind (context_text (Printed.context_with sids.now sid))) }
 {
     match sids.context(sid) {

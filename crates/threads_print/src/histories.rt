@@ -13,7 +13,7 @@ ghost use Rattle.threads_print.specs.Printing;
 use answer_text::Worded;
 use file_calls::{FileCall, FileReply};
 use flask_io::Sink;
-use flask_sid::Piece;
+use flask_sid::Text;
 use history_text::{put_entry, put_heading};
 use manager_history::Entry;
 use port_calls::{PortCall, PortReply};
@@ -36,7 +36,7 @@ fn write_heading<K: Sink>(alloc: Global, manager: Manager, sink: &mut K) -> Resu
     ensures err { OnErr result (AddsFront (K.written sink.old) (K.written sink.new) (ended (histories.heading_words manager))) }
     ensures cause { HasCause (K.faults sink.old) (K.faults sink.new) (result ≡ Err RunStop.WriteFault) }
 {
-    let mut out = Piece::new(alloc);
+    let mut out = Text::new(alloc);
     put_heading(&mut out, manager)?;
     put_line(sink, &out)
 }
@@ -55,7 +55,7 @@ fn write_entries<C, R: Worded, K: Sink>(
         (flat_map (Printing.entry_text (R.words setting.now.contexts.now) setting.now.clients.now manager) history.now)) }
     ensures cause { HasCause (K.faults sink.old) (K.faults sink.new) (result ≡ Err RunStop.WriteFault) }
 {
-    let mut out = Piece::new(alloc);
+    let mut out = Text::new(alloc);
     'entries: for entry in history {
         out.clear();
         put_entry(&mut out, setting.contexts, setting.clients, manager, entry)?;

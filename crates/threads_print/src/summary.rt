@@ -13,7 +13,7 @@ ghost use Rattle.threads_text.specs.Texts;
 use crate::histories::Histories;
 use file_calls::{FileCall, FileReply};
 use flask_io::Sink;
-use flask_sid::{Memory, Piece};
+use flask_sid::{Memory, Text};
 use history_text::{Counts, counts_of};
 use manager_history::Entry;
 use port_calls::{PortCall, PortReply};
@@ -46,7 +46,7 @@ fn have_room(
 {}
 
 /// Puts the line of a summary, with its line end.
-fn put_counts(out: &mut Piece, counts: Counts) -> Result<(), Memory>
+fn put_counts(out: &mut Text, counts: Counts) -> Result<(), Memory>
     ensures { OnOk result (out.new ≡ out.old ++ ended (Texts.summary_words counts)) }
 {
     out.extend(b"calls")?;
@@ -64,7 +64,7 @@ fn write_counts<K: Sink>(alloc: Global, counts: Counts, sink: &mut K) -> Result<
     ensures err { OnErr result (AddsFront (K.written sink.old) (K.written sink.new) (ended (Texts.summary_words counts))) }
     ensures cause { HasCause (K.faults sink.old) (K.faults sink.new) (result ≡ Err RunStop.WriteFault) }
 {
-    let mut out = Piece::new(alloc);
+    let mut out = Text::new(alloc);
     put_counts(&mut out, counts)?;
     put_line(sink, &out)
 }
