@@ -1,8 +1,5 @@
-pub mod SerialLemmas
-pub mod AuditLemmas
-pub mod LearningLemmas
 pub mod TopLemmas
 pub mod PathLemmas
-pub mod OpenedLemmas
+pub mod PlanLemmas
 pub mod MadePolicy
 pub mod MadeLemmas

@@ -18,10 +18,11 @@ use Rattle.command_line.specs.declared.command.Command.TheVariants as command
 use Rattle.command_line.specs.declared.command.PathAsked.{PathAsked}
 use Rattle.run_output.specs.Writing.{AddsFront}
 use Rattle.flaskd_run.specs.Reading.{IsEnd}
-use Rattle.flaskd_run.specs.Serial.{text_on, summary_on}
+use Rattle.serial_run.specs.Serial.{text_on, summary_on}
 use Rattle.flaskd_run.specs.Paths.{IsFound, found_text}
-use Rattle.flaskd_run.specs.Learning.{IsLearnt, learned_on}
-use Rattle.flaskd_run.specs.declared.learning.Learnt.{Learnt}
+use Rattle.flaskd_run.specs.Learning.{learned_on}
+use Rattle.session_lessons.specs.Lessons.{IsLearnt}
+use Rattle.session_lessons.specs.declared.learning.Learnt.{Learnt}
 use Rattle.grant_print.specs.Printed.{learned_text}
 use Rattle.std.proofs.lemmas.Bool.{lt-ltb, le-ltb}
 use Rattle.flaskd_run.specs.Threads.{HasEnded, text_of}

@@ -1,8 +1,5 @@
 pub mod Reading
 pub mod Texts
-pub mod Lines
-pub mod Serial
-pub mod Underway
 pub mod Paths
 pub mod Threads
 pub mod Learning

@@ -15,7 +15,7 @@ use Rattle.command_line.specs.declared.command.Command.{Command}
 use Rattle.command_line.specs.declared.command.Command.TheVariants as command
 use Rattle.command_line.specs.declared.command.PathAsked.{PathAsked}
 use Rattle.run_output.specs.Writing.{AddsFront}
-use Rattle.flaskd_run.specs.Serial.{text_on, summary_on}
+use Rattle.serial_run.specs.Serial.{text_on, summary_on}
 use Rattle.threads_text.specs.Texts.{IsThreadsText}
 use Rattle.flaskd_run.specs.Paths.{IsPathText}
 use Rattle.flaskd_run.specs.Learning.{learned_on}

@@ -1,15 +1,10 @@
 //! The program: reads a session, runs its lines on the managers, and prints what they answer.
 #![tactic(auto)]
 
-mod answers;
-mod learning;
-mod lines;
 mod path_texts;
 mod paths;
 mod reading;
-mod running;
 mod said;
-mod serial;
 mod status;
 mod task;
 mod texts;

@@ -8,10 +8,9 @@ ghost use Rattle.session_text.specs.Sessions.{IsSession, IsSidOf};
 ghost use Rattle.session_text.specs.declared.session.SessionParts.{SessionParts};
 ghost use Rattle.run_output.specs.Writing.{AddsFront};
 ghost use Rattle.run_output.specs.declared.stop.RunStop.{RunStop};
-ghost use Rattle.flaskd_run.specs.Serial;
+ghost use Rattle.session_runner.specs.Runs.{openings_of};
 ghost use Rattle.flaskd_run.specs.Threads;
 
-use crate::serial::openings_of;
 use access_vectors::Decider;
 use audit_log::AuditLog;
 use client_acts::Audit;
@@ -22,6 +21,7 @@ use retained_rights::{AllBits, EachBits};
 use run_histories::Closed;
 use run_output::{RunStop, Setting};
 use run_stops::Stops;
+use session_runner::{FirstObjects, openings_of};
 use session_text::{ClientLine, SessionParts};
 use std::alloc::Global;
 use std::sync::Wait;
@@ -50,7 +50,7 @@ pub fn run_to_end<'d, R: Threads + Wait + Sync, D: Decider + Sync, G: Stops + Sy
     stops: &G,
 ) -> Result<Ended<'d, D>, Memory>
     requires session { IsSession session }
-    requires openings { AreOpenings (D.decides decider.now) (Serial.openings_of session) }
+    requires openings { AreOpenings (D.decides decider.now) (openings_of session) }
     requires known { (sid : ℕ) → IsSidOf session.policy.contexts sid → IsTrue ((D.decides decider.now).known sid) }
     ensures ended { IfOk result (Threads.HasEnded (D.decides decider.now) session) }
     ensures log { IfOk result (Threads.IsLogged contexts.now session) }
@@ -65,8 +65,14 @@ pub fn run_to_end<'d, R: Threads + Wait + Sync, D: Decider + Sync, G: Stops + Sy
         clients,
         lines,
     } = session;
+    let first = FirstObjects {
+        root,
+        nodes,
+        port,
+        ports,
+    };
     let plan = Plan {
-        openings: openings_of(alloc, root, nodes, port, ports, clients.as_slice())?,
+        openings: openings_of(alloc, first, clients.as_slice())?,
         clients: clients.len() as u8,
         lines: lines.into_vec(),
     };

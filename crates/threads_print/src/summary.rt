@@ -1,6 +1,6 @@
 //! The summary of a threaded run.
 
-ghost use Rattle.std.specs.Prelude.{◌≡◌, ◌+◌, ◌<◌, ◌^◌, ◌++◌, length, Err, OnOk, OnErr};
+ghost use Rattle.std.specs.Prelude.{◌≡◌, ◌+◌, ◌<◌, ◌^◌, length, Err, OnOk, OnErr};
 ghost use Rattle.flask_io.specs.Streams.{Adds, HasCause};
 ghost use Rattle.access_vectors.specs.Decisions.{Decisions};
 ghost use Rattle.session_text.specs.declared.session.SessionParts.{SessionParts};
@@ -11,16 +11,16 @@ ghost use Rattle.run_histories.specs.Histories.{AreOfRun};
 ghost use Rattle.threads_text.specs.Texts;
 
 use crate::histories::Histories;
+use answer_text::put_summary;
 use file_calls::{FileCall, FileReply};
 use flask_io::Sink;
-use flask_sid::{Memory, Text};
+use flask_sid::Text;
 use history_text::{Counts, counts_of};
 use manager_history::Entry;
 use port_calls::{PortCall, PortReply};
 use process_calls::{ProcessCall, ProcessReply};
 use run_output::{RunStop, put_line};
 use std::alloc::Global;
-use text_print::{put_numeral, put_word};
 use threads_text::counts_of_run;
 
 /// What the three histories of a run count. Together they have fewer entries than 64 bits count, since an entry takes some bytes.
@@ -45,19 +45,6 @@ fn have_room(
     ensures { length files.now + length processes.now + length ports.now < 2 ^ 64 }
 {}
 
-/// Puts the line of a summary, with its line end.
-fn put_counts(out: &mut Text, counts: Counts) -> Result<(), Memory>
-    ensures { OnOk result (out.new ≡ out.old ++ ended (Texts.summary_words counts)) }
-{
-    out.extend(b"calls")?;
-    put_numeral(out, counts.calls)?;
-    put_word(out, b"denied")?;
-    put_numeral(out, counts.denied)?;
-    put_word(out, b"changes")?;
-    put_numeral(out, counts.changes)?;
-    out.push(b'\n')
-}
-
 /// Writes a summary.
 fn write_counts<K: Sink>(alloc: Global, counts: Counts, sink: &mut K) -> Result<(), RunStop>
     ensures ok { OnOk result (Adds (K.written sink.old) (K.written sink.new) (ended (Texts.summary_words counts))) }
@@ -65,7 +52,7 @@ fn write_counts<K: Sink>(alloc: Global, counts: Counts, sink: &mut K) -> Result<
     ensures cause { HasCause (K.faults sink.old) (K.faults sink.new) (result ≡ Err RunStop.WriteFault) }
 {
     let mut out = Text::new(alloc);
-    put_counts(&mut out, counts)?;
+    put_summary(&mut out, counts.calls, counts.denied, counts.changes)?;
     put_line(sink, &out)
 }
 

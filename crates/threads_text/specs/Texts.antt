@@ -1,5 +1,5 @@
 -- What a threaded run prints: the three histories, the audit lines, and the summary.
-use Rattle.std.specs.Prelude.{◌≡◌, ℕ, ◌+◌, List, [], ◌∷◌, ◌++◌, codes, decimal, if◌then◌else◌}
+use Rattle.std.specs.Prelude.{◌≡◌, ℕ, ◌+◌, List, [], ◌∷◌, ◌++◌, if◌then◌else◌}
 use Rattle.std.specs.List.{flat_map}
 use Rattle.flask_sid.specs.declared.context.ContextOf.{ContextOf}
 use Rattle.access_vectors.specs.Decisions.{Decisions}
@@ -20,6 +20,7 @@ use Rattle.audit_log.specs.Audited.{audited_in}
 use Rattle.client_script.specs.Audits.{audit_of}
 use Rattle.audit_log.specs.Texts.{line_text}
 use Rattle.audit_log.specs.declared.audited.AuditLine.{AuditLine}
+use Rattle.answer_text.specs.Summaries as summary
 use Rattle.answer_text.specs.Replies.{file_words, process_words, port_words, is_file_denial, is_process_denial, is_port_denial}
 use Rattle.history_text.specs.Histories.{history_text}
 use Rattle.history_text.specs.Counting.{counts_of}
@@ -34,7 +35,7 @@ audit_text contexts lines all n (client ∷ clients) = flat_map (line_text conte
 
 -- the line of a summary
 abbrev pub summary_words : Counts → List (List ℕ)
-summary_words counts = codes "calls" ∷ decimal counts.calls ∷ codes "denied" ∷ decimal counts.denied ∷ codes "changes" ∷ decimal counts.changes ∷ []
+summary_words counts = summary.summary_words counts.calls counts.denied counts.changes
 
 module _ (files : List (Entry FileCall FileReply)) (processes : List (Entry ProcessCall ProcessReply)) (ports : List (Entry PortCall PortReply)) where
   -- what three histories count: the calls in all three, those that were denied, and the policy numbers acknowledged in each

@@ -6,7 +6,7 @@ use Rattle.policy_versions.specs.Compiling.{sids_of, decides_of}
 use Rattle.session_text.proofs.SessionLemmas.{few_clients}
 use Rattle.run_output.specs.Writing.{AddsFront}
 use Rattle.flaskd_run.specs.Threads.{text_of}
-use Rattle.flaskd_run.proofs.SerialLemmas.{declared_known, openings_known}
+use Rattle.session_runner.proofs.OpeningLemmas.{declared_known, openings_known}
 use Rattle.flaskd_run.proofs.TopLemmas.{threads_writes}
 use Rattle.flaskd_run.proofs.top.run_threads.Goals as goal
 

@@ -1,14 +1,7 @@
 use Rattle.policy_versions.specs.Compiling.{sids_of, decides_of}
-use Rattle.flaskd_run.proofs.SerialLemmas.{declared_known, openings_known}
+use Rattle.session_runner.proofs.OpeningLemmas.{declared_known}
 use Rattle.flaskd_run.proofs.TopLemmas.{summary_writes}
 use Rattle.flaskd_run.proofs.top.sum_session.Goals as goal
-
-pub summary-requires-clause-openings : goal.summary-requires-clause-openings
-summary-requires-clause-openings g c =
-    openings_known c.into_parts.result (decides_of c.args.catalogue.now)
-    (rw (← c.into_parts.ensures.value) at c.into_parts.ensures.kept)
-    (declared_known c.into_parts.result.policy (sids_of c.args.catalogue.now) (decides_of c.args.catalogue.now)
-    (rw (← c.into_parts.ensures.value) at c.requires.judged.1) (rw (← c.into_parts.ensures.value) at c.requires.decides))
 
 pub summary-requires-clause-known : goal.summary-requires-clause-known
 summary-requires-clause-known g c =

@@ -1,0 +1,7 @@
+//! What the lines of a session come to, as lines of words.
+#![tactic(auto)]
+
+mod answers;
+mod changes;
+
+pub use answers::put_answer;

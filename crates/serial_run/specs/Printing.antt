@@ -1,0 +1,32 @@
+-- What a line that was run does to what was written and logged.
+use Rattle.std.specs.Prelude.{◌≡◌, ℕ, List, Option}
+use Rattle.audit_log.specs.Logs.{Gains}
+use Rattle.audit_log.specs.declared.audited.AuditLine.{AuditLine}
+use Rattle.flask_io.specs.Streams.{Adds, HasCause}
+use Rattle.run_output.specs.Writing.{AddsFront}
+use Rattle.run_output.specs.declared.setting.Setting.{Setting}
+use Rattle.run_output.specs.declared.stop.RunStop.{RunStop}
+use Rattle.run_output.specs.declared.stop.RunStop.TheVariants as run_stop
+use Rattle.session_runner.specs.Runs.{Shown}
+use Rattle.serial_run.specs.Serial.{line_text, line_audit}
+use Rattle.serial_run.specs.declared.printing.Printing.{Printing}
+
+-- what is printed of a line in a setting
+abbrev pub text_in : Setting → Shown → List ℕ
+text_in setting one = line_text setting.contexts.now setting.clients.now one
+
+-- and its audit lines
+abbrev pub audit_in : Setting → Shown → List AuditLine
+audit_in setting one = line_audit setting.audited setting.policy.now setting.contexts.now one
+
+-- a line was printed: its text was added, its audit lines were logged, and nothing failed
+pub record Prints {K : Type 0} (written : K → Option (List ℕ)) (faults : K → ℕ) (printing : Printing) (out : K) (one : Shown) (after : Printing) (later : K) : Type 0 where
+  pub setting_is : after.setting ≡ printing.setting
+  pub adds : Adds (written out) (written later) (text_in printing.setting one)
+  pub quiet : faults later ≡ faults out
+  pub gains : Gains printing.log after.log (audit_in printing.setting one)
+
+-- the run stopped at a line: a front of its text was added, and a write fault comes only from the sink
+pub record StopsPrint {K : Type 0} (written : K → Option (List ℕ)) (faults : K → ℕ) (printing : Printing) (out : K) (one : Shown) (later : K) (stop : RunStop) : Type 0 where
+  pub adds : AddsFront (written out) (written later) (text_in printing.setting one)
+  pub cause : HasCause (faults out) (faults later) (stop ≡ run_stop.WriteFault)

@@ -1,0 +1,9 @@
+//! A session, run in the text's order on one thread, and what is printed of it.
+#![tactic(auto)]
+
+mod ending;
+mod printing;
+mod quiet;
+mod serial;
+
+pub use serial::{serial, summary};

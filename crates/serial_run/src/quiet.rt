@@ -1,0 +1,23 @@
+//! A run of which nothing is kept but its counts.
+
+use access_vectors::Asked;
+use flask_sid::Memory;
+use session_runner::{LineOutcome, Recorder};
+
+/// Drops what each line came to.
+#[derive(Drop)]
+pub(crate) struct Quiet;
+
+impl Recorder<()> for Quiet {
+    type Stop = Memory;
+
+    ghost serves = { λ quiet clients. Unit {0} };
+
+    ghost takes = { λ quiet out one after later. Unit {0} };
+
+    ghost stops = { λ quiet out one later stop. Unit {0} };
+
+    fn take(&mut self, _: LineOutcome, _: &[Asked], _: &mut ()) -> Result<(), Memory> {
+        Ok(())
+    }
+}

@@ -1,0 +1,42 @@
+//! What lines were denied under a version, kept as each is run.
+
+use access_vectors::Asked;
+use audit_log::put_denials;
+use flask_sid::{Memory, Rows, SidTable};
+use policy_model::PolicyParts;
+use session_runner::{LineOutcome, Recorder};
+
+/// Keeps what the calls of clients that act under a version are denied.
+#[derive(Drop)]
+pub(crate) struct Learner<'a> {
+    pub(crate) policy: &'a PolicyParts,
+    /// The contexts of the policy's identifiers.
+    pub(crate) contexts: &'a SidTable,
+    pub(crate) version: u8,
+}
+
+impl<'a> Recorder<Rows<Asked>> for Learner<'a> {
+    ghost use Rattle.session_lessons.specs.Learning.{Learns};
+
+    type Stop = Memory;
+
+    ghost serves = { λ learner clients. Unit {0} };
+
+    ghost takes = { Learns };
+
+    ghost stops = { λ learner out one later stop. Unit {0} };
+
+    fn take(
+        &mut self,
+        outcome: LineOutcome,
+        asked: &[Asked],
+        out: &mut Rows<Asked>,
+    ) -> Result<(), Memory> {
+        match outcome.caller {
+            Some(caller) if caller.version == self.version => {
+                put_denials(out, self.policy, self.contexts, asked)
+            }
+            _ => Ok(()),
+        }
+    }
+}
