@@ -1,7 +1,7 @@
 """Sessions of 90,000 lines on threads, as whole commands, on one to four processors.
 
-`flaskd threads` and the plain program run the same sessions, less the start of the process; `flaskd serial` runs them on one thread. In the one session each of
-eight clients calls all managers, by the calls of `generate`; in the other each client calls one of them. What both programs print of a run is judged by
+`flaskd threads` and the plain program run the same sessions, less the start of the process; `flaskd serial` runs them on one thread. In the first session each of
+eight clients calls all managers, by the calls of `generate`, in the second each client calls one of them, and in the third four clients call all. What both programs print of a run is judged by
 tests/judge once.
 """
 
@@ -18,7 +18,11 @@ import timing
 RUNS = 9
 CRATES = ""
 LINES = 90_000
-CLIENTS = 8
+SESSIONS = (
+    ("each of eight clients calls all managers", 8, False),
+    ("each of eight clients calls one manager", 8, True),
+    ("each of four clients calls all managers", 4, False),
+)
 ABOVE = """policy 1
 context u:r:a_t
 context u:r:b_t
@@ -57,12 +61,12 @@ def admin(draw):
     return "admin " + draw.choice((f"notify {draw.randrange(3)}", "update 64", "update 64", "ack"))
 
 
-def text(is_divided):
+def text(clients, is_divided):
     """A session in which each client calls all managers, or one of them where it is divided."""
     draw = random.Random(7)
-    said = [f"client c{client} u:r:{'ab'[client % 2]}_t" for client in range(CLIENTS)] + ["run"]
+    said = [f"client c{client} u:r:{'ab'[client % 2]}_t" for client in range(clients)] + ["run"]
     for _ in range(LINES):
-        client = draw.randrange(CLIENTS)
+        client = draw.randrange(clients)
         manager = client % 3 if is_divided else draw.choice((0, 0, 0, 0, 1, 2, 2))
         said.append(admin(draw) if draw.randrange(8) == 0 else f"c{client} {call(draw, manager)}")
     return ABOVE + "\n".join(said) + "\n"
@@ -93,9 +97,9 @@ def measure(programs, asked):
     runs = {"threads": [flaskd, "threads"], "plain": [programs.plain], "serial": [flaskd, "serial"]}
     timing.head("session, processors", "`threads`, ms by the clock, best / median", "plain Rust", "ratio of medians", "`serial`", "user time: ratio to plain Rust")
     with tempfile.TemporaryDirectory() as folder:
-        for name, is_divided in (("each client calls all managers", False), ("each client calls one manager", True)):
+        for name, clients, is_divided in SESSIONS:
             path = pathlib.Path(folder) / "session"
-            path.write_text(text(is_divided))
+            path.write_text(text(clients, is_divided))
             judged(runs["threads"], path)
             judged(runs["plain"], path)
             for processors in (1, 2, 4):
