@@ -56,11 +56,7 @@ fn put_pattern(out: &mut Text, first: &[u8], pattern: &Pattern) -> Result<(), Me
 }
 
 /// Puts a line with this first word for each of these lines on permissions.
-pub(crate) fn put_patterns(
-    out: &mut Text,
-    first: &[u8],
-    patterns: &[Pattern],
-) -> Result<(), Memory>
+pub(crate) fn put_patterns(out: &mut Text, first: &[u8], patterns: &[Pattern]) -> Result<(), Memory>
     ensures { OnOk result (out.new ≡ out.old ++ Printed.texts_of (Printed.pattern_words first.now) patterns.now) }
 {
     'patterns: for pattern in patterns {

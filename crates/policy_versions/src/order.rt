@@ -53,9 +53,9 @@ fn texted_places(
 {
     let mut texted = Vec::new(alloc);
     'places: for at in 0..places.len() {
-        let context = context_of(alloc, policy, users, &places[at])?;
+        let text = text_at(alloc, policy, users, &places[at])?;
         texted.push(Texted {
-            text: text_of(alloc, &context)?,
+            text,
             at: at as u16,
         })?;
     }
@@ -91,6 +91,20 @@ pub(crate) fn context_of(
         role: holder.role.copy(alloc)?,
         kind: Name::of(alloc, &Word::new(kind))?,
     })
+}
+
+/// The text of the context of a place.
+fn text_at(
+    alloc: Global,
+    policy: &PolicyText,
+    users: &UserRoles,
+    place: &Place,
+) -> Result<Vec<u8>, Memory>
+    requires { place.now.row < length users.now }
+    ensures { IfOk result (λ text. text.items ≡ context_text (context_at policy.now users.now place.now.row place.now.kind)) }
+{
+    let context = context_of(alloc, policy, users, place)?;
+    text_of(alloc, &context)
 }
 
 /// The text of a context.
