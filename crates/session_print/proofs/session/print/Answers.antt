@@ -12,9 +12,9 @@ text c =
     ∙ rw (c.in_ok-put_policy.ensures, c.new-out.ensures, c.parts.ensures.parts, c.parts-session.ensures.parts, printed_parts c.args.session.now) refl
 
 pub returns-clause-text : goal.returns-clause-text
-returns-clause-text c = text c
+returns-clause-text c = c.into_piece.ensures ∙ text c
 
 pub returns-clause-again : goal.returns-clause-again
 returns-clause-again c =
     let kept : IsWholePolicy c.args.session.now.policy = rw c.parts-session.ensures.parts at c.parts.ensures.kept in
-    rw (text c) (printed_again c.args.session.now kept c.parts-session.ensures.kept)
+    rw (c.into_piece.ensures ∙ text c) (printed_again c.args.session.now kept c.parts-session.ensures.kept)
