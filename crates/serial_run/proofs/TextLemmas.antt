@@ -37,5 +37,5 @@ unfolding text_on
 text_as session d contexts contexts' policy clients audited all state count old log policy_is contexts_is clients_is audited_is all_is state_is old_is gains =
     let printed = logged_as contexts' count log (lines_audit audited policy contexts' all) 0 clients (rw old_is at gains) in
     let same : run_text audited policy contexts' clients all state ≡ run_text session.audit session.policy contexts session.clients (lines_shown d (first_state session) session.lines) (state_below d (first_state session) session.lines)
-        = rw (policy_is, contexts_is, clients_is, audited_is, all_is, state_is) refl in
+    = rw (policy_is, contexts_is, clients_is, audited_is, all_is, state_is) refl in
     sym same ∙ rw printed refl

@@ -47,6 +47,13 @@ pub(crate) fn write_end<K: Sink>(
     ensures cause { HasCause (K.faults sink.old) (K.faults sink.new) (result ≡ Err RunStop.WriteFault) }
 {
     let setting = &printing.setting;
-    write_audit(alloc, setting.contexts, &printing.log, 0, setting.clients, sink)?;
+    write_audit(
+        alloc,
+        setting.contexts,
+        &printing.log,
+        0,
+        setting.clients,
+        sink,
+    )?;
     write_counts(alloc, counts, sink)
 }

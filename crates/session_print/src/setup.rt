@@ -42,11 +42,7 @@ fn put_initial(
     out.push(b'\n')
 }
 
-fn put_ports(
-    out: &mut Text,
-    contexts: &[ContextLine],
-    ports: &[LabelledPort],
-) -> Result<(), Memory>
+fn put_ports(out: &mut Text, contexts: &[ContextLine], ports: &[LabelledPort]) -> Result<(), Memory>
     ensures { OnOk result (out.new ≡ out.old ++ texts_of (Printed.labelled_port_words contexts.now) ports.now) }
 {
     'ports: for line in ports {
