@@ -4,6 +4,6 @@
 mod ending;
 mod printing;
 mod quiet;
-mod serial;
+mod running;
 
-pub use serial::{serial, summary};
+pub use running::{serial, summary};

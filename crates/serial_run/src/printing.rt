@@ -26,8 +26,8 @@ impl<'a> Printing<'a> {
     /// Nothing is written or logged yet.
     pub(crate) fn new(alloc: Global, setting: Setting<'a>) -> Result<Printing<'a>, Memory>
         requires { length setting.clients.now < 256 }
-        ensures setting { IfOk result (λ printing. printing.setting ≡ setting) }
-        ensures log { IfOk result (λ printing. printing.log ≡ replicate (length setting.clients.now) []) }
+        ensures setting { IfOk result (λ printing. printing.setting ≡ setting.entry) }
+        ensures log { IfOk result (λ printing. printing.log ≡ replicate (length setting.entry.clients.now) []) }
     {
         let log = AuditLog::new(alloc, setting.clients.len() as u8)?;
         Ok(Printing {
