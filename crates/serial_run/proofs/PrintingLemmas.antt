@@ -1,6 +1,7 @@
 -- Lines printed one after another.
 use Rattle.std.proofs.Common.{◌≡◌, ◌∙◌, ◌≤◌, ◌⊎◌, ℕ, List, [], ◌∷◌, ◌++◌, Option, None, Some, Result, Ok, Err, refl, sym, ap, append-nil, inl, inr, arith}
 use Rattle.std.specs.List.{flat_map}
+use Rattle.std.specs.Prelude.{OnErr, IfErr, IsErrAnd}
 use Rattle.flask_io.specs.Streams.{Adds, HasCause}
 use Rattle.audit_log.specs.Logs.{Gains}
 use Rattle.audit_log.proofs.LogLemmas.{gains_nothing, gains_more}
@@ -20,7 +21,7 @@ adds_nothing None = refl
 adds_nothing (Some bytes) = ap Some (sym (append-nil bytes))
 
 -- which is a front of any text
-nothing_put : (put : Option (List ℕ)) (text : List ℕ) → AddsFront put put text
+pub nothing_put : (put : Option (List ℕ)) (text : List ℕ) → AddsFront put put text
 nothing_put put text = ([], text, refl, adds_nothing put)
 
 -- lines were printed: their texts were added, their audit lines were logged, and nothing failed
@@ -72,3 +73,21 @@ printed_front written faults wants memory printing out later (one ∷ more) stop
 -- a cause of one failure is that of another that comes with it
 pub cause_as : (before now : ℕ) (P Q : Type 0) → (Q → P) → (P → Q) → HasCause before now P → HasCause before now Q
 cause_as before now P Q there back has = record { later = has.later; rose = λ q. has.rose (there q); quiet = λ none. has.quiet (λ p. none (back p)) }
+
+-- where the write of a line fails, the run stops at the line
+pub stops_at_line : {K A : Type 0} (written : K → Option (List ℕ)) (faults : K → ℕ) (printing : Printing) (out later : K) (one : Shown) (result : Result A RunStop) (text : List ℕ) → text ≡ text_in printing.setting one
+    → OnErr result (AddsFront (written out) (written later) text) → HasCause (faults out) (faults later) (result ≡ Err run_stop.WriteFault)
+    → IfErr result (λ stop. StopsPrint written faults printing out one later stop)
+stops_at_line written faults printing out later one (Ok done) text text_is front cause = tt
+stops_at_line {A = A} written faults printing out later one (Err stop) text text_is front cause = record {
+  adds = rw text_is at front;
+  cause = cause_as (faults out) (faults later) (◌≡◌ {A = Result A RunStop} (Err stop) (Err run_stop.WriteFault)) (stop ≡ run_stop.WriteFault)
+      (λ at. ap (λ (s : RunStop). Err s) at) (λ at. let same : stop ≡ run_stop.WriteFault = cc in same) cause;
+}
+
+-- and the run ends with what it stopped with
+pub stop_as : {A : Type 0} (before now : ℕ) (stop : RunStop) (result : Result A RunStop) → IsErrAnd result (λ given. given ≡ stop) → HasCause before now (stop ≡ run_stop.WriteFault) → HasCause before now (result ≡ Err run_stop.WriteFault)
+stop_as before now stop (Ok done) is has = absurd is
+stop_as {A = A} before now stop (Err given) is has =
+    cause_as before now (stop ≡ run_stop.WriteFault) (◌≡◌ {A = Result A RunStop} (Err given) (Err run_stop.WriteFault))
+    (λ at. let same : given ≡ run_stop.WriteFault = cc in sym is ∙ same) (λ at. ap (λ (s : RunStop). Err s) (is ∙ at)) has
