@@ -6,5 +6,6 @@ mod Pens
 mod Outcome
 mod Logged
 mod Cores
+mod SharedLists
 mod Policies
 mod Crossing

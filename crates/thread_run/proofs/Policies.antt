@@ -15,15 +15,16 @@ use Rattle.policy_model.specs.contracts.policy.AttributeLine as attribute_line
 use Rattle.policy_model.specs.contracts.policy.Version as version
 use Rattle.policy_model.specs.contracts.policy.PolicyParts as policy_parts
 use Rattle.client_acts.specs.contracts.worker.Audit as audit
-
-sid_table_sync : IsSync sid_table.the_row
-sid_table_sync = search (sendable, crosses) depth 60
+use Rattle.thread_run.proofs.SharedLists.{small_vec_sync}
 
 rows_sync : (T : RattleType) → IsSync T → IsSync (rows.the_row T)
 rows_sync T t = search (sendable, crosses) depth 20
 
 name_sync : IsSync name.the_row
-name_sync = search (sendable, crosses) depth 20
+name_sync = let v = small_vec_sync in search (sendable, crosses) depth 20
+
+sid_table_sync : IsSync sid_table.the_row
+sid_table_sync = let n = name_sync in search (sendable, crosses) depth 60
 
 who_sync : IsSync (who.the_row name.the_row)
 who_sync = let n = name_sync in search (sendable, crosses) depth 20
