@@ -102,6 +102,16 @@ unfolding expected_of
 large_ran asked before after put bytes reads large takes bounded =
     record { taken = bytes; takes = takes; bounded = bounded; judged = None; is_judged = not_judged _; answers = rw (reads, large) refl; whole = rw reads tt; text = []; is_text = none_answered (Some asked) bytes; puts = refl }
 
+-- the source failed before its end
+pub fault_ran : (asked : Command) (before after put : Option (List ℕ)) (bytes : List ℕ) → reads_input asked ≡ true → Takes before after bytes → length bytes ≤ 4194305 → Ran status.ReadFault (Some asked) before after put put
+fault_ran asked before after put bytes reads takes bounded =
+    record { taken = bytes; takes = takes; bounded = bounded; judged = None; is_judged = not_judged _; answers = tt; whole = rw reads tt; text = []; is_text = none_answered (Some asked) bytes; puts = refl }
+
+-- memory was wanting before the end of the source
+pub wanting_ran : (asked : Command) (before after put : Option (List ℕ)) (bytes : List ℕ) → reads_input asked ≡ true → Takes before after bytes → length bytes ≤ 4194305 → Ran status.Memory (Some asked) before after put put
+wanting_ran asked before after put bytes reads takes bounded =
+    record { taken = bytes; takes = takes; bounded = bounded; judged = None; is_judged = not_judged _; answers = tt; whole = rw reads tt; text = []; is_text = none_answered (Some asked) bytes; puts = inl refl }
+
 -- what is served is answered
 answers_of : (said expected : Status) → Serves said expected → Answers said expected
 answers_of status.Ok expected serves = serves
