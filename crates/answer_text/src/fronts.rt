@@ -22,6 +22,7 @@ pub struct Front {
 }
 
 /// Puts the words in front of a reply, with one space between them.
+#[inline(always)]
 pub fn put_front(out: &mut Text, clients: &[ClientLine], front: Front) -> Result<(), Memory>
     ensures { OnOk result (out.new ≡ out.old ++ spaced (Fronts.front_words clients.now front)) }
 {

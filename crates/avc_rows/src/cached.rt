@@ -28,6 +28,7 @@ impl<'a, 'd, V: Journal<D>, D: Decider> Cached<'a, 'd, V, D> {
     ghost use Rattle.epoch_gate.specs.Known.{decider_of, HasPass, pass_version};
 
     /// The asker of a seat with a pass, of which nothing was asked yet.
+    #[inline(always)]
     pub fn new(gate: &'a Gate<'d, V, D>, seat: &'a mut Seat<V, D>) -> Self
         requires gate { IsOfGate gate.now seat.old }
         requires pass { HasPass seat.old }
@@ -66,27 +67,33 @@ impl<'a, 'd, V: Journal<D>, D: Decider> Asker for Cached<'a, 'd, V, D> {
 
     ghost same = { λ c d. (d.seat.ghost_name ≡ c.seat.ghost_name) × (d.gate.now ≡ c.gate.now) × (d.plainly.decider.now ≡ c.plainly.decider.now) × (d.plainly.ver ≡ c.plainly.ver) × IsSame c.seat.now d.seat.now };
 
+    #[inline(always)]
     fn version(&self) -> u8 {
         self.plainly.version()
     }
 
+    #[inline(always)]
     fn asks(&self) -> u64 {
         self.plainly.asks()
     }
 
+    #[inline(always)]
     fn vector(&mut self, s: Sid, t: Sid, c: Class) -> Vector {
         self.plainly.count = self.plainly.count.saturating_add(1);
         check(self.gate, self.seat, s, t, c).vector
     }
 
+    #[inline(always)]
     fn label(&mut self, s: Sid, t: Sid, c: Class) -> Sid {
         self.plainly.label(s, t, c)
     }
 
+    #[inline(always)]
     fn member(&mut self, s: Sid, t: Sid, c: Class) -> Sid {
         self.plainly.member(s, t, c)
     }
 
+    #[inline(always)]
     fn vector_at(&mut self, ver: u8, s: Sid, t: Sid, c: Class) -> Vector {
         self.plainly.vector_at(ver, s, t, c)
     }

@@ -215,6 +215,7 @@ impl<'d, D: Decider, M: Managed> Coordinator<'d, D, M> {
 
 impl<'d, D: Decider, M: Serves> Coordinator<'d, D, M> {
     /// Does a client's act at the manager with that number. The others stay as they are.
+    #[inline(always)]
     pub fn serve(&mut self, alloc: Global, manager: u8, act: M::Act) -> M::Outcome
         requires there { manager < length self.old.managers }
         requires may { IfSome (slice_get self.old.managers manager) (λ it. M.may it act) }

@@ -17,6 +17,7 @@ use mode_questions::{Doubled, Operation};
 use retained_rights::Callback;
 
 /// Reads at most `most` bytes of the file of a caller's slot, from `offset` on.
+#[inline(always)]
 pub fn read<F: Callback, A: Asker>(
     files: &Files<F>,
     operation: &mut Operation<A>,

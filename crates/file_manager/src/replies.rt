@@ -13,6 +13,7 @@ use mode_questions::Doubled;
 use std::alloc::Global;
 
 /// A reply that holds neither bytes nor names.
+#[inline(always)]
 pub fn both(reply: FileReply) -> Doubled<FileReply>
     requires { is_short reply ≡ true }
     ensures { result ≡ reply }
@@ -43,6 +44,7 @@ pub fn both(reply: FileReply) -> Doubled<FileReply>
 }
 
 /// The reply of a denied call.
+#[inline(always)]
 pub fn denied(perm: Perm, policy: u32) -> Doubled<FileReply>
     ensures { result ≡ FileReply.Denied perm policy }
 {
@@ -50,6 +52,7 @@ pub fn denied(perm: Perm, policy: u32) -> Doubled<FileReply>
 }
 
 /// The reply of a call whose walk stopped.
+#[inline(always)]
 pub fn stopped(stop: Stop) -> Doubled<FileReply>
     ensures { result ≡ Walking.said_of stop }
 {
@@ -61,6 +64,7 @@ pub fn stopped(stop: Stop) -> Doubled<FileReply>
 }
 
 /// At most `most` of the bytes from `offset` on.
+#[inline(always)]
 pub fn read_bytes(
     alloc: Global,
     bytes: &[u8],
@@ -76,6 +80,7 @@ pub fn read_bytes(
 }
 
 /// At most `most` of the bytes from `offset` on.
+#[inline(always)]
 fn part(bytes: &[u8], offset: u32, most: u32) -> &[u8]
     ensures { result.now ≡ take most (drop offset bytes.now) }
 {

@@ -12,6 +12,7 @@ use mode_questions::{Operation, SlotUse};
 use retained_rights::{Callback, Usable};
 
 /// What a slot of the caller holds: its use, and the bytes of its file.
+#[inline(always)]
 pub fn held<'f, F: Callback, A: Asker>(
     files: &'f Files<F>,
     operation: &Operation<A>,
@@ -27,6 +28,7 @@ pub fn held<'f, F: Callback, A: Asker>(
 }
 
 /// What a used slot gives its client.
+#[inline(always)]
 pub fn usage_of(usable: &Usable) -> SlotUse
     ensures { result ≡ record { t = usable.now.t; mode = usable.now.mode; bits = usable.now.bits; number = usable.now.number } }
 {
@@ -39,6 +41,7 @@ pub fn usage_of(usable: &Usable) -> SlotUse
 }
 
 /// The bytes of a node that is a file.
+#[inline(always)]
 fn bytes_of(node: &Node) -> &[u8]
     requires { is_some node.now.bytes ≡ true }
     ensures { node.now.bytes ≡ Some result.now }

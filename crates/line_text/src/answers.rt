@@ -17,6 +17,7 @@ use text_lines::put_number;
 use text_print::put_word;
 
 /// Puts what the line of a number came to, with its line end. Labels are identifiers of these contexts.
+#[inline(always)]
 pub fn put_answer(
     out: &mut Text,
     contexts: &SidTable,
@@ -30,6 +31,7 @@ pub fn put_answer(
     out.push(b'\n')
 }
 
+#[inline(always)]
 fn put_words(
     out: &mut Text,
     contexts: &SidTable,
@@ -80,6 +82,7 @@ fn put_words(
     }
 }
 
+#[inline(always)]
 fn front_of(line: u32, client: u8, manager: Manager, number: u32) -> Front
     ensures { result ≡ Answers.front_of line client manager number }
 {
@@ -92,6 +95,7 @@ fn front_of(line: u32, client: u8, manager: Manager, number: u32) -> Front
 }
 
 /// Puts what stands in front of what the administrator is told.
+#[inline(always)]
 fn put_admin(out: &mut Text, line: u32) -> Result<(), Memory>
     ensures { OnOk result (out.new ≡ out.old ++ spaced (Answers.admin_words line)) }
 {
@@ -100,6 +104,7 @@ fn put_admin(out: &mut Text, line: u32) -> Result<(), Memory>
 }
 
 /// Puts what a call got.
+#[inline(always)]
 fn put_got(out: &mut Text, contexts: &SidTable, got: &Answer<Reply>) -> Result<(), Memory>
     ensures { OnOk result (out.new ≡ out.old ++ flat_map behind (Answers.got_words contexts.now got.now)) }
 {

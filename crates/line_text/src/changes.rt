@@ -12,6 +12,7 @@ use text_lines::put_number;
 use text_print::{put_numeral, put_word};
 
 /// Puts what a notice got.
+#[inline(always)]
 pub(crate) fn put_notice(out: &mut Text, said: &Result<u32, NotifyAllFault>) -> Result<(), Memory>
     ensures { OnOk result (out.new ≡ out.old ++ flat_map behind (Answers.notice_words said.now)) }
 {
@@ -24,6 +25,7 @@ pub(crate) fn put_notice(out: &mut Text, said: &Result<u32, NotifyAllFault>) -> 
     }
 }
 
+#[inline(always)]
 fn put_numbered(out: &mut Text, word: &[u8], number: u32) -> Result<(), Memory>
     ensures { OnOk result (out.new ≡ out.old ++ flat_map behind (word.now ∷ decimal number ∷ [])) }
 {
@@ -78,6 +80,7 @@ fn put_all_said(out: &mut Text, said: &[Said]) -> Result<(), Memory>
 }
 
 /// Puts what a manager said.
+#[inline(always)]
 fn put_said(out: &mut Text, said: &Said) -> Result<(), Memory>
     ensures { OnOk result (out.new ≡ out.old ++ behind (Answers.said_word said.now)) }
 {
@@ -88,6 +91,7 @@ fn put_said(out: &mut Text, said: &Said) -> Result<(), Memory>
     }
 }
 
+#[inline(always)]
 fn put_count(out: &mut Text, why: &[u8], count: u64) -> Result<(), Memory>
     ensures { OnOk result (out.new ≡ out.old ++ behind (why.now ++ decimal count)) }
 {

@@ -78,6 +78,7 @@ impl<'d, C: Core, D: Decider> Plain<'d, C, D> {
 
     /// Does a client's call, under its held pass or else a pass of the newest number. One under a pass below the settled
     /// number is aborted, and changes nothing but the history. After `Memory` all is as before.
+    #[inline(always)]
     pub fn call(
         &mut self,
         alloc: Global,
@@ -107,6 +108,7 @@ impl<'d, C: Core, D: Decider> Plain<'d, C, D> {
 
     /// What the newest entry of the history asked, which is nothing where it is no operation.
     #[tactic(auto, unfolding(crate::specs::Posts::last_asked))]
+    #[inline(always)]
     pub fn last_asked(&self) -> &[Asked]
         ensures { result.now ≡ Posts.last_asked self.now.keeper.history }
     {
@@ -124,6 +126,7 @@ impl<'d, C: Core, D: Decider> Plain<'d, C, D> {
     }
 
     /// The policy number under which a client acts.
+    #[inline(always)]
     pub fn acting(&self, client: u8) -> u32
         requires { client < 64 }
         ensures { result ≡ Posts.acting_number (Posts.post_of C.state C.follows self.now) client }
@@ -135,6 +138,7 @@ impl<'d, C: Core, D: Decider> Plain<'d, C, D> {
     }
 
     /// A client takes a pass of the newest number, and holds it. One that holds a pass keeps that.
+    #[inline(always)]
     pub fn begin(&mut self, client: u8)
         requires { client < 64 }
         ensures post { Posts.post_of C.state C.follows self.new ≡ Posts.begun (Posts.post_of C.state C.follows self.old) client }
@@ -148,6 +152,7 @@ impl<'d, C: Core, D: Decider> Plain<'d, C, D> {
     }
 
     /// A client gives its held pass back, if it holds one.
+    #[inline(always)]
     pub fn end(&mut self, client: u8)
         requires { client < 64 }
         ensures post { Posts.post_of C.state C.follows self.new ≡ Posts.ended (Posts.post_of C.state C.follows self.old) client }

@@ -27,6 +27,7 @@ pub(crate) struct Request<K> {
 }
 
 /// Does a call of a keeper, asking through the cache. After `Memory` the keeper is as before.
+#[inline(always)]
 pub(crate) fn serve<'d, V: Journal<D>, C: Core, D: Decider>(
     gate: &Gate<'d, V, D>,
     seat: &mut Seat<V, D>,

@@ -29,6 +29,7 @@ pub(crate) struct Asking<K> {
 
 /// What the newest entry asked, where that is wanted, and else nothing.
 #[tactic(auto, unfolding(managed::specs::Posts::last_asked))]
+#[inline(always)]
 fn asked_last<C: Core>(
     alloc: Global,
     history: History<'_, C>,
@@ -48,6 +49,7 @@ fn asked_last<C: Core>(
 impl<'d, C: Core + Drop, D: Decider> Station<'d, C, D> {
     /// Does a call under the pass's number, with one turn, and copies its questions where that is wanted. After `Memory`
     /// nothing was added, the turn is given back and the pass is kept.
+    #[inline(always)]
     fn attend<R: Wait>(
         &self,
         rt: &R,
@@ -92,6 +94,7 @@ impl<'d, C: Core + Drop, D: Decider> Station<'d, C, D> {
     /// Does a call under the pass's number, with one turn, asking through the cache. It is `Aborted` exactly where that
     /// number is below the settled one in the history that the turn finds. After `Memory` nothing was added, the turn is
     /// given back and the pass is kept.
+    #[inline(always)]
     pub fn call<R: Wait>(
         &self,
         rt: &R,
@@ -124,6 +127,7 @@ impl<'d, C: Core + Drop, D: Decider> Station<'d, C, D> {
 
     /// As `call`, with the call's questions, copied under the turn; an aborted call has none. After `Memory` the turn is
     /// given back and the pass is kept; nothing was added, or just this call.
+    #[inline(always)]
     pub fn call_asked<R: Wait>(
         &self,
         rt: &R,

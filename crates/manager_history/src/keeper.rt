@@ -12,6 +12,7 @@ use std::marker::Model;
 use std::sync::ledger::Ledger;
 
 /// Adds an entry, for which there is room.
+#[inline(always)]
 fn add<K: Drop, R: Drop>(entries: &mut Vec<Entry<K, R>>, entry: Entry<K, R>)
     requires { vec_len entries.old < vec_capacity entries.old }
     ensures added { entries.new.items ≡ entries.old.items ++ entry ∷ [] }
@@ -22,6 +23,7 @@ fn add<K: Drop, R: Drop>(entries: &mut Vec<Entry<K, R>>, entry: Entry<K, R>)
 }
 
 /// Adds that a caller's call under a policy number was aborted, for which there is room.
+#[inline(always)]
 fn add_aborted<K: Drop, R: Drop>(
     entries: &mut Vec<Entry<K, R>>,
     caller: u8,
@@ -116,6 +118,7 @@ impl<'d, C: Core, D: Decider> Keeper<'d, C, D> {
     /// Does a caller's call under a policy number, and adds it to the history as one entry: an operation, or where the
     /// number is below the settled one that the call was aborted, which leaves core and asker as they were. `mark` is the
     /// caller's own number of the call. After `Memory` the keeper is as before.
+    #[inline(always)]
     pub fn call<A: Asker>(
         &mut self,
         alloc: Global,
@@ -178,6 +181,7 @@ impl<'d, C: Core, D: Decider> Keeper<'d, C, D> {
     }
 
     /// Whether a call under this policy number is aborted.
+    #[inline(always)]
     fn aborts(&self, number: u32) -> bool
         ensures { result ≡ is_aborted self.now.phase number }
     {

@@ -23,6 +23,7 @@ impl<R> Model for Doubled<R> {
 
 impl<R> Doubled<R> {
     /// A reply and an equal one.
+    #[inline(always)]
     pub fn of(history: R, caller: R) -> Doubled<R>
         requires { caller ≡ history }
         ensures { result ≡ history }
@@ -31,6 +32,7 @@ impl<R> Doubled<R> {
     }
 
     /// The two.
+    #[inline(always)]
     pub fn pair(self) -> (R, R)
         ensures history { result.0 ≡ self }
         ensures caller { result.1 ≡ self }

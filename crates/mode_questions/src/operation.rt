@@ -19,6 +19,7 @@ pub struct Caller<A> {
 
 impl<A> Caller<A> {
     /// The caller of a call that begins with this asker.
+    #[inline(always)]
     pub fn new(alloc: Global, client: u8, subject: Sid, number: u32, asker: &A) -> Self
         ensures client { result.client ≡ client }
         ensures subject { result.subject ≡ subject }
@@ -52,6 +53,7 @@ impl<'a, A: Asker> Operation<'a, A> {
     ghost use Rattle.mode_questions.specs.Operations.{request, HasAsked, IsAnswered};
 
     /// The operation of a caller, for which nothing was asked yet.
+    #[inline(always)]
     pub fn new(caller: &'a Caller<A>, asker: &'a mut A, asked: &'a mut Questions) -> Self
         requires begun { caller.now.begun.value ≡ asker.old }
         requires known { IsTrue ((A.decides asker.old).known caller.now.subject) }
@@ -69,6 +71,7 @@ impl<'a, A: Asker> Operation<'a, A> {
     }
 
     /// Asks whether the subject has a permission on `t`.
+    #[inline(always)]
     pub fn ask(&mut self, t: Sid, perm: Perm) -> Result<bool, Memory>
         requires { IsTrue ((request self.old).decisions.known t) }
         ensures { IsAnswered result self.old self.new (question_of (request self.old) t perm) }
@@ -78,6 +81,7 @@ impl<'a, A: Asker> Operation<'a, A> {
     }
 
     /// The label of a new object of a class that a source makes at a target.
+    #[inline(always)]
     pub fn label(&mut self, s: Sid, t: Sid, c: Class) -> Sid
         requires source { IsTrue ((request self.old).decisions.known s) }
         requires target { IsTrue ((request self.old).decisions.known t) }
@@ -88,6 +92,7 @@ impl<'a, A: Asker> Operation<'a, A> {
     }
 
     /// The member of a set of objects of a class that the subject is led to.
+    #[inline(always)]
     pub fn member(&mut self, t: Sid, c: Class) -> Sid
         requires { IsTrue ((request self.old).decisions.known t) }
         ensures member { let r = request self.old in result ≡ r.decisions.member r.version r.subject t c }

@@ -26,6 +26,7 @@ impl<'a, A: Asker> Operation<'a, A> {
 
     /// Whether a slot of the caller lets it use a permission of the slot's mode.
     #[tactic(auto, using(crate::proofs::Bits::has_ruled))]
+    #[inline(always)]
     pub fn ask_use(&mut self, usage: SlotUse, perm: Perm) -> Result<bool, Memory>
         requires target { IsTrue ((request self.old).decisions.known usage.t) }
         requires mode { has usage.mode perm.index ≡ true }
@@ -46,6 +47,7 @@ impl<'a, A: Asker> Operation<'a, A> {
 
     /// Asks the whole mode of a slot of the caller, whose permissions of a class these are, and tells the first that is
     /// denied. Where the usable bits are none, the decider is asked past the cache which permission is missing.
+    #[inline(always)]
     pub fn ask_whole(
         &mut self,
         usage: SlotUse,
@@ -78,6 +80,7 @@ impl<'a, A: Asker> Operation<'a, A> {
 
 /// Adds the questions of those of the permissions that the mode has, in their order, with the answers of a known vector, and
 /// tells the first that is denied. After `Memory` some questions may have been added.
+#[inline(always)]
 fn judge_mode(
     known: Vector,
     asked: &mut Questions,

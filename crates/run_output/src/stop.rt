@@ -27,6 +27,7 @@ impl From<Memory> for RunStop {
 }
 
 /// Writes a line that was put together.
+#[inline(always)]
 pub fn put_line<K: Sink>(sink: &mut K, out: &Text) -> Result<(), RunStop>
     ensures ok { OnOk result (Adds (K.written sink.old) (K.written sink.new) out.now) }
     ensures err { OnErr result (AddsFront (K.written sink.old) (K.written sink.new) out.now) }

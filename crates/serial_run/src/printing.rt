@@ -50,6 +50,7 @@ impl<'a, K: Sink> Recorder<K> for Printing<'a> {
 
     ghost stops = { StopsPrint K.written K.faults };
 
+    #[inline(always)]
     fn take(&mut self, outcome: LineOutcome, asked: &[Asked], sink: &mut K) -> Result<(), RunStop> {
         let LineOutcome {
             line,

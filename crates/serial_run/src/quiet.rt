@@ -17,6 +17,7 @@ impl Recorder<()> for Quiet {
 
     ghost stops = { λ quiet out one later stop. Unit {0} };
 
+    #[inline(always)]
     fn take(&mut self, _: LineOutcome, _: &[Asked], _: &mut ()) -> Result<(), Memory> {
         Ok(())
     }

@@ -25,6 +25,7 @@ impl<'d, D: Decider> SessionManagers<'d, D> {
     /// Does a client's call of one of the managers, under its held pass or else a pass of the newest number. One under a pass
     /// below the settled number is aborted, which changes nothing but history and counts. `mark` is the client's own number of
     /// the call. After `Memory` all is as before.
+    #[inline(always)]
     pub fn call(
         &mut self,
         alloc: Global,
@@ -61,6 +62,7 @@ impl<'d, D: Decider> SessionManagers<'d, D> {
     }
 
     /// The policy number under which a client acts on a manager.
+    #[inline(always)]
     pub fn acting(&self, client: u8, manager: Manager) -> u32
         requires { client < 64 }
         ensures { result ≡ SessionStates.acting_on self.now.state client manager }
@@ -69,6 +71,7 @@ impl<'d, D: Decider> SessionManagers<'d, D> {
     }
 
     /// The version of the policy under which a client acts on a manager.
+    #[inline(always)]
     pub fn acting_version(&self, client: u8, manager: Manager) -> u8
         requires { client < 64 }
         ensures { result ≡ SessionStates.version_on self.now.state client manager }
@@ -78,6 +81,7 @@ impl<'d, D: Decider> SessionManagers<'d, D> {
     }
 
     /// What the newest call of a manager asked: one that was aborted nothing.
+    #[inline(always)]
     pub fn asked(&self, manager: Manager) -> &[Asked]
         ensures { result.now ≡ SessionViews.asked_of self.now.asked manager }
     {
@@ -85,6 +89,7 @@ impl<'d, D: Decider> SessionManagers<'d, D> {
     }
 
     /// A client takes a pass of the newest number of a manager, and holds it. One that holds a pass keeps that.
+    #[inline(always)]
     pub fn begin(&mut self, alloc: Global, client: u8, manager: Manager)
         requires { client < 64 }
         ensures state { self.new.state ≡ SessionStates.state_begun self.old.state client manager }
@@ -100,6 +105,7 @@ impl<'d, D: Decider> SessionManagers<'d, D> {
     }
 
     /// A client gives its held pass of a manager back, if it holds one.
+    #[inline(always)]
     pub fn end(&mut self, alloc: Global, client: u8, manager: Manager)
         requires { client < 64 }
         ensures state { self.new.state ≡ SessionStates.state_ended self.old.state client manager }
@@ -116,6 +122,7 @@ impl<'d, D: Decider> SessionManagers<'d, D> {
 }
 
 /// The number of a manager.
+#[inline(always)]
 fn number_of(manager: Manager) -> u8
     ensures { result ≡ SessionViews.number_of manager }
 {
@@ -127,6 +134,7 @@ fn number_of(manager: Manager) -> u8
 }
 
 /// A count of denied calls, with this answer.
+#[inline(always)]
 fn counted(denied: u64, answer: &Answer<Reply>) -> u64
     requires { denied + 1 < 2 ^ 64 }
     ensures { result ≡ SessionStates.counted_denial (One.denial_in answer.now) denied }

@@ -29,6 +29,7 @@ pub enum OneManager<'d, D: Decider> {
 
 impl<'d, D: Decider> OneManager<'d, D> {
     /// Where the manager's change of policy stands.
+    #[inline(always)]
     pub fn phase(&self) -> Phase
         ensures { result ≡ One.phase (One.place_of self.now) }
     {
@@ -40,6 +41,7 @@ impl<'d, D: Decider> OneManager<'d, D> {
     }
 
     /// The policy number under which a client acts.
+    #[inline(always)]
     pub fn acting(&self, client: u8) -> u32
         requires { client < 64 }
         ensures { result ≡ One.acting (One.place_of self.now) client }
@@ -52,6 +54,7 @@ impl<'d, D: Decider> OneManager<'d, D> {
     }
 
     /// What the newest call asked.
+    #[inline(always)]
     pub fn last_asked(&self) -> &[Asked]
         ensures { result.now ≡ One.last_asked self.now }
     {
@@ -63,6 +66,7 @@ impl<'d, D: Decider> OneManager<'d, D> {
     }
 
     /// Does a client's call, which is of this manager, under its held pass or else a pass of the newest number.
+    #[inline(always)]
     fn call(
         &mut self,
         alloc: Global,
@@ -91,6 +95,7 @@ impl<'d, D: Decider> OneManager<'d, D> {
     }
 
     /// A client takes a pass of the newest number, and holds it. One that holds a pass keeps that.
+    #[inline(always)]
     fn begin(&mut self, client: u8)
         requires { client < 64 }
         ensures { One.HasPassed D.decides self.old self.new (One.after_begin client (One.place_of self.old)) }
@@ -103,6 +108,7 @@ impl<'d, D: Decider> OneManager<'d, D> {
     }
 
     /// A client gives its held pass back, if it holds one.
+    #[inline(always)]
     fn end(&mut self, client: u8)
         requires { client < 64 }
         ensures { One.HasPassed D.decides self.old self.new (One.after_end client (One.place_of self.old)) }
@@ -116,6 +122,7 @@ impl<'d, D: Decider> OneManager<'d, D> {
 }
 
 /// An answer of the manager of files as one of the three managers'.
+#[inline(always)]
 fn of_files(answer: Answer<FileReply>) -> Answer<Reply>
     ensures { result ≡ One.answer_of Reply.File answer }
 {
@@ -125,6 +132,7 @@ fn of_files(answer: Answer<FileReply>) -> Answer<Reply>
     }
 }
 
+#[inline(always)]
 fn of_processes(answer: Answer<ProcessReply>) -> Answer<Reply>
     ensures { result ≡ One.answer_of Reply.Process answer }
 {
@@ -134,6 +142,7 @@ fn of_processes(answer: Answer<ProcessReply>) -> Answer<Reply>
     }
 }
 
+#[inline(always)]
 fn of_ports(answer: Answer<PortReply>) -> Answer<Reply>
     ensures { result ≡ One.answer_of Reply.Port answer }
 {
@@ -198,6 +207,7 @@ impl<'d, D: Decider> Serves for OneManager<'d, D> {
 
     ghost does = { Does D.decides };
 
+    #[inline(always)]
     fn serve(&mut self, alloc: Global, act: ClientAct) -> Result<Option<Answer<Reply>>, Memory> {
         let ClientAct { client, act } = act;
         match act {

@@ -17,6 +17,7 @@ use std::alloc::Global;
 use std::sync::Wait;
 
 /// Does a client's call of one of the managers.
+#[inline(always)]
 fn call<D: Decider>(
     alloc: Global,
     managed: &mut SessionManagers<'_, D>,
@@ -45,6 +46,7 @@ fn call<D: Decider>(
 }
 
 /// Does what a line of a session of so many clients asks.
+#[inline(always)]
 pub(crate) fn answer<R: Wait, D: Decider>(
     rt: &R,
     alloc: Global,

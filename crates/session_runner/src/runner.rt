@@ -76,6 +76,7 @@ impl<'d, D: Decider> Runner<'d, D> {
     }
 
     /// Who acts in a line, where it is a client's call.
+    #[inline(always)]
     fn caller_of(&self, line: &RunLine) -> Option<Caller>
         requires { IsRun (λ sid. IsTrue ((D.decides self.now.decider).known sid)) self.now.clients line.now.run }
         ensures { result ≡ Runs.caller_of self.now.state line.now.run }
@@ -95,6 +96,7 @@ impl<'d, D: Decider> Runner<'d, D> {
     }
 
     /// Does what a line asks. After `Memory` it answers nothing but `Memory`.
+    #[inline(always)]
     fn answer<R: Wait>(&mut self, rt: &R, line: RunLine) -> Result<LineAnswer, Memory>
         requires formed { IsRun (λ sid. IsTrue ((D.decides self.old.decider).known sid)) self.old.clients line.run }
         requires calls { self.old.state.calls + 1 < 2 ^ 64 }
@@ -115,6 +117,7 @@ impl<'d, D: Decider> Runner<'d, D> {
     }
 
     /// Does what a line asks, and says who acted in it. After `Memory` it answers nothing but `Memory`.
+    #[inline(always)]
     pub fn act<R: Wait>(&mut self, rt: &R, line: RunLine) -> Result<LineOutcome, Memory>
         requires formed { IsRun (λ sid. IsTrue ((D.decides self.old.decider).known sid)) self.old.clients line.run }
         requires calls { self.old.state.calls + 1 < 2 ^ 64 }
@@ -137,6 +140,7 @@ impl<'d, D: Decider> Runner<'d, D> {
     }
 
     /// What the newest call of a caller's manager asked; nothing where there is no caller.
+    #[inline(always)]
     pub fn asked(&self, caller: Option<Caller>) -> &[Asked]
         ensures { result.now ≡ Runs.asked_for self.now.asked caller }
     {

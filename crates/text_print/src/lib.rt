@@ -12,6 +12,7 @@ use flask_sid::{Context, Memory, Sid, SidTable, Text};
 use text_lines::put_number;
 
 /// Puts a word behind a space.
+#[inline(always)]
 pub fn put_word(out: &mut Text, word: &[u8]) -> Result<(), Memory>
     ensures { OnOk result (out.new ≡ out.old ++ Printed.behind word.now) }
 {
@@ -20,6 +21,7 @@ pub fn put_word(out: &mut Text, word: &[u8]) -> Result<(), Memory>
 }
 
 /// Puts a number behind a space, without leading zeros.
+#[inline(always)]
 pub fn put_numeral(out: &mut Text, number: u64) -> Result<(), Memory>
     ensures { OnOk result (out.new ≡ out.old ++ Printed.behind (decimal number)) }
 {
@@ -29,6 +31,7 @@ pub fn put_numeral(out: &mut Text, number: u64) -> Result<(), Memory>
 
 /// Puts a context behind a space.
 #[tactic(auto, unfolding(flask_sid::specs::Contexts::context_text))]
+#[inline(always)]
 pub fn put_context(out: &mut Text, context: &Context) -> Result<(), Memory>
     ensures { OnOk result (out.new ≡ out.old ++ Printed.behind (context_text context.now)) }
 {
@@ -42,6 +45,7 @@ pub fn put_context(out: &mut Text, context: &Context) -> Result<(), Memory>
 
 /// Puts the context of an identifier behind a space. A number that is none has a context of empty names.
 #[tactic(auto, unfolding(flask_sid::specs::Contexts::context_text))]
+#[inline(always)]
 pub fn put_label(out: &mut Text, sids: &SidTable, sid: Sid) -> Result<(), Memory>
     ensures { OnOk result (out.new ≡ out.old ++ Printed.behind (context_text (Printed.context_with sids.now sid))) }
 {
