@@ -153,6 +153,7 @@ fn put_said(text: &mut String, said: Said) -> Result<(), Memory> {
             put_all(text, &[" behind:"])?;
             put_number(text, left as u64)
         }
-        Said::Kept | Said::Idle => put_all(text, &[" kept"]),
+        Said::Kept => put_all(text, &[" kept"]),
+        Said::Idle => put_all(text, &[" idle"]),
     }
 }

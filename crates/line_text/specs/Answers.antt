@@ -31,7 +31,7 @@ abbrev pub got_words : List (ContextOf (List ℕ)) → Answer Reply → List (Li
 got_words contexts (Did got) = reply_words contexts got
 got_words contexts Aborted = aborted_words
 
--- what a notice got: its number, or why it was refused
+-- what a notice got: its number, or why it was refused; in a session numbers are never spent, and after want of memory nothing is told
 abbrev pub notice_words : Result ℕ NotifyAllFault → List (List ℕ)
 notice_words (Ok number) = codes "notified" ∷ decimal number ∷ []
 notice_words (Err (faults.Pending pending)) = codes "pending" ∷ decimal pending ∷ []
@@ -43,11 +43,12 @@ notice_words (Err (faults.Memory reached)) = codes "memory" ∷ []
 abbrev pub updated_words : List ℕ → List (List ℕ)
 updated_words left = codes "updated" ∷ map decimal left
 
--- what a manager said: it keeps the change back, or has acknowledged it, just now or before
+-- what a manager said: passes or stale slots keep the change back, its receipt is there, or it has no notice
 abbrev pub said_word : Said → List ℕ
 said_word (saying.Busy older) = codes "busy:" ++ decimal older
 said_word (saying.Behind left) = codes "behind:" ++ decimal left
-said_word other = codes "kept"
+said_word saying.Kept = codes "kept"
+said_word saying.Idle = codes "idle"
 
 -- what an acknowledgement got: nothing was pending, the change is complete, or it waits, and what each manager said
 abbrev pub acks_words : Acks → List (List ℕ)

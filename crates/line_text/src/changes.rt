@@ -87,7 +87,8 @@ fn put_said(out: &mut Text, said: &Said) -> Result<(), Memory>
     match said {
         Said::Busy(older) => put_count(out, b"busy:", *older),
         Said::Behind(left) => put_count(out, b"behind:", *left),
-        Said::Kept | Said::Idle => put_word(out, b"kept"),
+        Said::Kept => put_word(out, b"kept"),
+        Said::Idle => put_word(out, b"idle"),
     }
 }
 

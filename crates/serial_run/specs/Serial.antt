@@ -32,11 +32,11 @@ caller_audit true policy contexts line (Some caller) asked = lines_asked policy 
 caller_audit true policy contexts line None asked = []
 caller_audit false policy contexts line caller asked = []
 
--- the audit lines of a line
+-- the audit lines of a line: none where they are not printed
 abbrev pub line_audit : Bool → PolicyParts → List (ContextOf (List ℕ)) → Shown → List AuditLine
 line_audit audited policy contexts one = caller_audit audited policy contexts one.outcome.line one.outcome.caller one.asked
 
--- the audit lines of lines, in the text's order
+-- the audit lines of lines, in the text's order: none where they are not printed
 abbrev pub lines_audit : Bool → PolicyParts → List (ContextOf (List ℕ)) → List Shown → List AuditLine
 lines_audit audited policy contexts all = flat_map (line_audit audited policy contexts) all
 
@@ -59,6 +59,6 @@ unfoldable pub text_on : List (ContextOf (List ℕ)) → Decisions → SessionPa
 text_on contexts d session =
     run_text session.audit session.policy contexts session.clients (lines_shown d (first_state session) session.lines) (state_below d (first_state session) session.lines)
 
--- the summary of a session alone, under these decisions
+-- the summary of a session alone, under these decisions: what `generate` prints
 unfoldable pub summary_on : Decisions → SessionParts → List ℕ
 summary_on d session = summary_of (state_below d (first_state session) session.lines)

@@ -1,5 +1,5 @@
 -- What is learned from a session: the denials of its run under a version of its policy.
-use Rattle.std.specs.Prelude.{◌≡◌, ℕ, ◌==◌, List, [], Option, Some, None, if◌then◌else◌}
+use Rattle.std.specs.Prelude.{◌≡◌, ℕ, ◌==◌, List, [], Option, Some, None, All, if◌then◌else◌}
 use Rattle.std.specs.List.{filter, flat_map}
 use Rattle.flask_sid.specs.declared.context.ContextOf.{ContextOf}
 use Rattle.access_vectors.specs.Decisions.{Decisions}
@@ -8,6 +8,7 @@ use Rattle.audit_allow.specs.Denials.{Lesson}
 use Rattle.audit_allow.specs.Grants.{grants}
 use Rattle.audit_allow.specs.declared.grant.GrantKind.TheVariants.{Allow, Refused}
 use Rattle.audit_log.specs.Audited.{is_denial}
+use Rattle.manager_history.specs.Answers.{IsTold}
 use Rattle.policy_model.specs.declared.policy.PolicyParts.{PolicyParts}
 use Rattle.session_runner.specs.Runs.{Shown, first_state, lines_shown}
 use Rattle.session_runner.specs.declared.outcomes.Caller.{Caller}
@@ -19,11 +20,11 @@ abbrev pub caller_denials : ℕ → PolicyParts → List (ContextOf (List ℕ)) 
 caller_denials version policy contexts None asked = []
 caller_denials version policy contexts (Some caller) asked = if caller.version == version then filter (is_denial policy contexts) asked else []
 
--- what a line was denied under a version
+-- what a line was denied under a version, but for what goes without an audit line
 abbrev pub line_denials : ℕ → PolicyParts → List (ContextOf (List ℕ)) → Shown → List Asked
 line_denials version policy contexts one = caller_denials version policy contexts one.outcome.caller one.asked
 
--- what lines were denied under a version, in the text's order
+-- what lines were denied under a version, but for what goes without an audit line, in the text's order
 abbrev pub lines_denials : ℕ → PolicyParts → List (ContextOf (List ℕ)) → List Shown → List Asked
 lines_denials version policy contexts all = flat_map (line_denials version policy contexts) all
 
@@ -32,8 +33,9 @@ abbrev pub lesson_of : ℕ → List (ContextOf (List ℕ)) → Decisions → Ses
 lesson_of version contexts d session =
     record { policy = session.policy; contexts = contexts; asked = lines_denials version session.policy contexts (lines_shown d (first_state session) session.lines) }
 
--- what was learned from a session under a version, with its policy
+-- what was learned from a session under a version, with its policy; what was learned from has the answers that the decisions give under that version
 pub record IsLearnt (version : ℕ) (contexts : List (ContextOf (List ℕ))) (d : Decisions) (session : SessionParts) (learnt : Learnt) : Type 0 where
   pub policy_is : learnt.policy ≡ session.policy
   pub allow_is : learnt.learned.allow ≡ grants Allow (lesson_of version contexts d session)
   pub refused_is : learnt.learned.refused ≡ grants Refused (lesson_of version contexts d session)
+  pub told : All (IsTold d version) (lesson_of version contexts d session).asked

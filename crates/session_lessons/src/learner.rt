@@ -1,4 +1,4 @@
-//! What lines were denied under a version, kept as each is run.
+//! What lines were denied under a version, but for what goes without an audit line, kept as each is run.
 
 use access_vectors::Asked;
 use audit_log::put_denials;
@@ -6,7 +6,7 @@ use flask_sid::{Memory, Rows, SidTable};
 use policy_model::PolicyParts;
 use session_runner::{LineOutcome, Recorder};
 
-/// Keeps what the calls of clients that act under a version are denied.
+/// Keeps what the calls of clients that act under a version are denied, but for what goes without an audit line.
 #[derive(Drop)]
 pub(crate) struct Learner<'a> {
     pub(crate) policy: &'a PolicyParts,

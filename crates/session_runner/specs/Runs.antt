@@ -84,7 +84,7 @@ asked_by d state (run.Process client asks) = (told_to d state client (call.Proce
 asked_by d state (run.Port client asks) = (told_to d state client (call.Port asks)).asked
 asked_by d state asks = []
 
--- a client on a manager: the policy number under which it acts, and the version of that number
+-- a client on a manager: the policy number under which it acts, and the version of that number, where no forced acknowledgement aborts its calls
 abbrev pub caller_at : SessionState → ℕ → Manager → Caller
 caller_at state client of = record { client = client; manager = of; number = acting_on state client of; version = version_on state client of }
 

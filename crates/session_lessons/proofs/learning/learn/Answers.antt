@@ -3,7 +3,9 @@ use Rattle.audit_allow.specs.Grants.{grants}
 use Rattle.audit_allow.specs.declared.grant.GrantKind.TheVariants.{Allow, Refused}
 use Rattle.policy_versions.specs.Compiling.{sids_of, decides_of}
 use Rattle.session_runner.proofs.OpeningLemmas.{declared_known, opened_shown}
+use Rattle.session_runner.specs.Runs.{first_state}
 use Rattle.session_lessons.proofs.LearningLemmas.{learned_all, lesson_is}
+use Rattle.session_lessons.proofs.ToldLemmas.{lines_told}
 use Rattle.session_lessons.proofs.learning.learn.Goals as goal
 
 pub open-requires-clause-known : goal.open-requires-clause-known
@@ -23,4 +25,5 @@ returns g c =
       policy_is = is.policy_is;
       allow_is = c.in_ok-learned.ensures.allow ∙ ap (grants Allow) lesson;
       refused_is = c.in_ok-learned.ensures.refused ∙ ap (grants Refused) lesson;
+      told = lines_told (decides_of c.args.catalogue.now) c.args.version c.args.session.policy (sids_of c.args.catalogue.now) (first_state c.args.session) c.args.session.lines;
     }
