@@ -7,7 +7,7 @@ a station of files. Figures are of processor time.
 import timing
 
 RUNS = 11
-CRATES = "may_wait=13: managed_run managed example_board file_manager file_store file_calls retained_rights manager_history avc_rows epoch_gate gate_rule access_vectors flask_sid"
+CRATES = "may_wait=10: managed_run managed example_board file_manager file_store file_calls retained_rights manager_history avc_rows epoch_gate gate_rule access_vectors flask_sid"
 # What is measured: the program's word, what it is called, and the rounds.
 WORKS = (
     ("core", "a read by the core's own call", 400_000),
