@@ -4,6 +4,7 @@ mod Leading
 mod Offices
 mod Pens
 mod Outcome
+mod Left
 mod Logged
 mod Cores
 mod SharedLists

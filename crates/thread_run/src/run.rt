@@ -1,6 +1,6 @@
 //! The run.
 
-ghost use Rattle.std.specs.Prelude.{◌≡◌, ℕ, length, All, IfOk, OnOk};
+ghost use Rattle.std.specs.Prelude.{◌≡◌, ℕ, length, All, Ok, true, is_ok, IfOk, OnOk};
 ghost use Rattle.std.specs.List.{AllZip};
 ghost use Rattle.session_text.specs.declared.session.SessionParts.{SessionParts};
 ghost use Rattle.run_histories.specs.Histories.{AreOfRun};
@@ -17,10 +17,13 @@ use crate::managers::{HeldOne, apart, lead};
 use crate::prepared::{Prepared, Ran, Staff};
 use crate::slots::slots_of;
 use access_vectors::Decider;
+use audit_log::AuditLog;
 use audit_queue::AuditQueue;
 use client_acts::Audit;
 use flask_sid::Memory;
 use managed::Managed;
+use retained_rights::{AllBits, EachBits};
+use run_histories::Closed;
 use run_stops::Stops;
 use station_start::{Admins, ThreeStations};
 use std::alloc::Global;
@@ -117,6 +120,27 @@ fn run_workers<'d, R: Threads + Wait + Sync, D: Decider + Sync, G: Stops + Sync>
     })
 }
 
+/// What a run leaves, where every script was run whole and no worker wanted memory. It stands in a function of its own, since the
+/// histories are given back at each of its ends.
+fn left_by<'d, D: Decider>(
+    whole: bool,
+    ended: Result<(), Memory>,
+    closed: Closed<'d, D, EachBits, AllBits, AllBits>,
+    log: Result<AuditLog, Memory>,
+) -> Result<Ran<'d, D>, Memory>
+    ensures closed { IfOk result (λ ran. ran.closed ≡ closed.entry) }
+    ensures log { IfOk result (λ ran. log ≡ Ok ran.log) }
+    ensures whole { IfOk result (λ ran. whole ≡ true) }
+    ensures ended { IfOk result (λ ran. is_ok ended ≡ true) }
+{
+    ended?;
+    if whole {
+        Ok(Ran { closed, log: log? })
+    } else {
+        Err(Memory)
+    }
+}
+
 /// Runs a session: a worker for each client, and the administrator's beside them. All are joined; then every
 /// seat and every pen is retired, the three stations are ended and the queue of audit lines is drained, also where a worker wanted
 /// memory, and only then is that answered. The three histories are those of a threaded run of the session that was prepared, and the
@@ -159,10 +183,5 @@ pub fn run_on_threads<'d, 'g, R: Threads + Wait + Sync, D: Decider + Sync, G: St
     let whole = have_all_run(slots.as_slice());
     let closed = close(stations, &queue, slots, admins, &mut taker);
     let log = drained(rt, alloc, queue, taker, clients);
-    ended?;
-    if whole {
-        Ok(Ran { closed, log: log? })
-    } else {
-        Err(Memory)
-    }
+    left_by(whole, ended, closed, log)
 }
