@@ -82,7 +82,8 @@ impl<T: Drop> Rows<T> {
         ensures ok { OnOk result (self.new ≡ self.old ++ member ∷ []) }
         ensures err { OnErr result (self.new ≡ self.old) }
     {
-        self.items.push(member)?;
+        self.items.reserve(1)?;
+        self.items.push_reserved(member);
         Ok(())
     }
 

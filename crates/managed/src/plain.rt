@@ -138,7 +138,6 @@ impl<'d, C: Core, D: Decider> Plain<'d, C, D> {
     }
 
     /// A client takes a pass of the newest number, and holds it. One that holds a pass keeps that.
-    #[inline(always)]
     pub fn begin(&mut self, client: u8)
         requires { client < 64 }
         ensures post { Posts.post_of C.state C.follows self.new ≡ Posts.begun (Posts.post_of C.state C.follows self.old) client }
@@ -152,7 +151,6 @@ impl<'d, C: Core, D: Decider> Plain<'d, C, D> {
     }
 
     /// A client gives its held pass back, if it holds one.
-    #[inline(always)]
     pub fn end(&mut self, client: u8)
         requires { client < 64 }
         ensures post { Posts.post_of C.state C.follows self.new ≡ Posts.ended (Posts.post_of C.state C.follows self.old) client }

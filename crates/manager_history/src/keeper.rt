@@ -19,7 +19,7 @@ fn add<K: Drop, R: Drop>(entries: &mut Vec<Entry<K, R>>, entry: Entry<K, R>)
     ensures len { vec_len entries.new ≡ vec_len entries.old + 1 }
     ensures room { vec_capacity entries.old ≤ vec_capacity entries.new }
 {
-    let _ = entries.push(entry);
+    entries.push_reserved(entry);
 }
 
 /// Adds that a caller's call under a policy number was aborted, for which there is room.

@@ -89,7 +89,6 @@ impl<'d, D: Decider> SessionManagers<'d, D> {
     }
 
     /// A client takes a pass of the newest number of a manager, and holds it. One that holds a pass keeps that.
-    #[inline(always)]
     pub fn begin(&mut self, alloc: Global, client: u8, manager: Manager)
         requires { client < 64 }
         ensures state { self.new.state ≡ SessionStates.state_begun self.old.state client manager }
@@ -105,7 +104,6 @@ impl<'d, D: Decider> SessionManagers<'d, D> {
     }
 
     /// A client gives its held pass of a manager back, if it holds one.
-    #[inline(always)]
     pub fn end(&mut self, alloc: Global, client: u8, manager: Manager)
         requires { client < 64 }
         ensures state { self.new.state ≡ SessionStates.state_ended self.old.state client manager }

@@ -95,7 +95,6 @@ impl<'d, D: Decider> OneManager<'d, D> {
     }
 
     /// A client takes a pass of the newest number, and holds it. One that holds a pass keeps that.
-    #[inline(always)]
     fn begin(&mut self, client: u8)
         requires { client < 64 }
         ensures { One.HasPassed D.decides self.old self.new (One.after_begin client (One.place_of self.old)) }
@@ -108,7 +107,6 @@ impl<'d, D: Decider> OneManager<'d, D> {
     }
 
     /// A client gives its held pass back, if it holds one.
-    #[inline(always)]
     fn end(&mut self, client: u8)
         requires { client < 64 }
         ensures { One.HasPassed D.decides self.old self.new (One.after_end client (One.place_of self.old)) }
