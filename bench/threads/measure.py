@@ -1,8 +1,8 @@
 """Sessions of 90,000 lines on threads, as whole commands, on one to four processors.
 
 `flaskd threads` and the plain program run the same sessions, less the start of the process; `flaskd serial` runs them on one thread. In the first session each of
-eight clients calls all managers, by the calls of `generate`, in the second each client calls one of them, and in the third four clients call all. What both programs print of a run is judged by
-tests/judge once.
+eight clients calls all managers, by the calls of `generate`, in the second each client calls one of them, in the third four clients call all, and in the fourth each of three clients has
+a manager that no other calls. What both programs print of a run is judged by tests/judge once.
 """
 
 import os
@@ -22,6 +22,7 @@ SESSIONS = (
     ("each of eight clients calls all managers", 8, False),
     ("each of eight clients calls one manager", 8, True),
     ("each of four clients calls all managers", 4, False),
+    ("each of three clients calls a manager of its own", 3, True),
 )
 ABOVE = """policy 1
 context u:r:a_t
