@@ -78,6 +78,7 @@ impl<T> Rows<T> {
 
 impl<T: Drop> Rows<T> {
     /// Adds a member at the end. After `Memory` the list is as before, and the member is given up.
+    #[inline(always)]
     pub fn push(&mut self, member: T) -> Result<(), Memory>
         ensures ok { OnOk result (self.new ≡ self.old ++ member ∷ []) }
         ensures err { OnErr result (self.new ≡ self.old) }

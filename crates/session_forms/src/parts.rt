@@ -59,6 +59,7 @@ impl<'a> Parts<'a> {
     }
 
     /// The next part, or `None` where none is left.
+    #[inline(always)]
     fn next(&mut self) -> Option<&'a [u8]>
         ensures { MatchOption result ((self.old ≡ []) × (self.new ≡ []))
             (λ part. self.old ≡ part.now ∷ self.new) }
@@ -158,6 +159,7 @@ impl<'a> Parts<'a> {
     }
 
     /// A kept copy of the path.
+    #[inline(always)]
     pub fn kept(&self, alloc: Global) -> Result<FilePath, Memory>
         ensures { IfOk result (λ path. path ≡ self.now) }
     {
@@ -172,6 +174,7 @@ impl<'a> Parts<'a> {
 
 /// The parts of a word that is a path but for its length and theirs, or `None` where it is none.
 #[tactic(auto, unfolding(crate::specs::PathForms::path_form))]
+#[inline(always)]
 pub fn path_form<'a>(word: &Word<'a>) -> Option<Parts<'a>>
     ensures { result ≡ PathForms.path_form word.now }
 {
@@ -192,6 +195,7 @@ pub fn path_form<'a>(word: &Word<'a>) -> Option<Parts<'a>>
 }
 
 #[tactic(auto, unfolding(crate::specs::PathForms::is_part_form))]
+#[inline(always)]
 fn is_part_form(part: &[u8]) -> bool
     ensures { result ≡ PathForms.is_part_form part.now }
 {

@@ -30,6 +30,7 @@ pub enum RunForm<'a> {
 
 /// What the words of a line that runs say, or `None` where they are none.
 #[tactic(auto, unfolding(crate::specs::RunForms::run_form))]
+#[inline(always)]
 pub fn run_form<'a>(first: Word<'a>, words: Words<'a>) -> Option<RunForm<'a>>
     ensures { result ≡ RunForms.run_form first.entry words.entry }
 {

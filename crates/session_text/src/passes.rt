@@ -62,6 +62,7 @@ pub(crate) struct PassChange {
 
 impl PassChange {
     /// The pass that a line takes or gives back, if any.
+    #[inline(always)]
     pub(crate) fn of(run: &Run) -> Option<PassChange>
         ensures { result ≡ Passes.change_of run.now }
     {
@@ -118,6 +119,7 @@ impl PassTable {
     }
 
     /// Notes who holds a pass below a line that makes this change.
+    #[inline(always)]
     pub(crate) fn note(&mut self, change: Option<PassChange>)
         requires { Passes.IsWithin (length self.old) change }
         ensures { self.new ≡ Passes.noted self.old change }

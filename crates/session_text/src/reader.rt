@@ -223,6 +223,7 @@ fn is_run(form: &SetupForm<'_>) -> bool
 
 /// What a line that runs says, if anything.
 #[tactic(auto, unfolding(crate::specs::Grammar::run_line_read, crate::specs::Grammar::run_words_read))]
+#[inline(never)]
 fn run_line_read<'a>(
     alloc: Global,
     number: u32,

@@ -94,6 +94,7 @@ impl<'a> Running<'a> {
     }
 
     /// Adds a line. After `Memory` the session is as before.
+    #[inline(always)]
     pub(crate) fn add_line(&mut self, line: u32, run: Run) -> Result<(), Memory>
         requires { MayLine self.old.policy.contexts self.old.clients self.old.lines (record { line = line; run = run }) }
         ensures ok { OnOk result (self.new ≡ Grammar.with_line line run self.old) }

@@ -27,6 +27,7 @@ const CLIENT_LIMIT: usize = 62;
 
 /// A session line of this form. The line `run` asks nothing.
 #[tactic(auto, unfolding(crate::specs::Reading::setup_read, session_forms::specs::ArgumentForms::IsSetupForm))]
+#[inline(never)]
 pub fn setup_read<'a>(
     alloc: Global,
     form: SetupForm<'a>,

@@ -35,6 +35,12 @@ pub word_begins : (bytes : List ℕ) → eqb (length bytes) 0 ≡ false → is_w
 word_begins [] some word = cc
 word_begins (b ∷ bs) some word = word
 
+-- where bytes begin with a word, their first byte is no gap
+pub begins_filled : (bytes : List ℕ) (k : ℕ) → begins_word bytes ≡ true → k < 1 → is_gap (get_or bytes k 0) ≡ false
+begins_filled [] k begins first = cc
+begins_filled (b ∷ bs) zero begins first = ap not begins
+begins_filled (b ∷ bs) (suc k) begins first = absurd (omega (arith, first))
+
 -- what words from a byte of a word on say is told by that byte
 pub said_from : (b : ℕ) (bs : List ℕ) → is_word_byte b ≡ true → said_words (words_of (b ∷ bs)) ≡ cond (eqb b 35) [] (words_of (b ∷ bs))
 unfolding words_of said_words

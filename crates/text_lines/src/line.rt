@@ -12,6 +12,7 @@ use memchr::memchr;
 pub const LINE_LIMIT: u32 = 100_000;
 
 /// The first line of a text and the text below it, or `None` exactly where no line is left.
+#[inline(always)]
 pub fn first_line(bytes: &[u8]) -> Option<(&[u8], &[u8])>
     ensures { MatchOption result (Lines.lines_of bytes.now ≡ [])
         (λ parts. Lines.lines_of bytes.now ≡ parts.0.now ∷ Lines.lines_of parts.1.now) }
@@ -29,6 +30,7 @@ pub fn first_line(bytes: &[u8]) -> Option<(&[u8], &[u8])>
     }
 }
 
+#[inline(always)]
 fn line_end(bytes: &[u8]) -> Option<usize>
     ensures { result ≡ position Lines.is_line_end bytes.now }
 {

@@ -15,10 +15,10 @@ pub fn numeral(word: &Word<'_>) -> Option<u64>
     ensures { result ≡ Numerals.numeral_of word.now }
 {
     let digits = word.as_bytes();
-    if digits.is_empty() || digits.len() > 10 || !are_digits(digits) {
+    if digits.is_empty() || digits.len() > 10 {
         return None;
     }
-    Some(value_of(digits))
+    value_of(digits)
 }
 
 /// Adds the decimal form of a number, without leading zeros. After `Memory` the text is as before.
@@ -41,26 +41,23 @@ fn put_digits(out: &mut Text, number: u64) -> Result<(), Memory>
     out.extend(buffer.format(number).as_bytes())
 }
 
-fn are_digits(bytes: &[u8]) -> bool
-    ensures { result ≡ list_all Numerals.is_digit bytes.now }
-{
-    bytes.iter().all(|b| is_digit(*b))
-}
-
 fn is_digit(b: u8) -> bool
     ensures { result ≡ Numerals.is_digit b }
 {
     b.is_ascii_digit()
 }
 
-fn value_of(digits: &[u8]) -> u64
-    requires digits { list_all Numerals.is_digit digits.now ≡ true }
-    requires short { length digits.now ≤ 10 }
-    ensures { result ≡ digits_value 10 digits.now }
+// The number that digits are, or `None` where one of the bytes is no digit.
+fn value_of(digits: &[u8]) -> Option<u64>
+    requires { length digits.now ≤ 10 }
+    ensures { result ≡ Numerals.value_of digits.now }
 {
     let mut value = 0;
     'digits: for digit in digits {
+        if !is_digit(*digit) {
+            return None;
+        }
         value = value * 10 + u64::from(*digit - b'0');
     }
-    value
+    Some(value)
 }

@@ -59,6 +59,7 @@ impl<'a> Words<'a> {
     }
 
     /// Takes the first word off, or answers `None` where there is none.
+    #[inline(always)]
     pub fn next(&mut self) -> Option<Word<'a>>
         ensures { MatchOption result ((self.old ≡ []) × (self.new ≡ []))
             (λ word. self.old ≡ word ∷ self.new) }
@@ -86,10 +87,14 @@ fn is_gap(b: u8) -> bool
     !is_word_byte(b)
 }
 
+// The place of the first gap behind bytes that begin with a word.
+#[inline(always)]
 fn place_of_gap(bytes: &[u8]) -> Option<usize>
+    requires { begins_word bytes.now ≡ true }
     ensures { result ≡ position is_gap bytes.now }
 {
-    let mut at = 0;
+    // The first byte is none.
+    let mut at = 1;
     'bytes: while at < bytes.len() {
         if is_gap(bytes[at]) {
             return Some(at);
@@ -100,6 +105,7 @@ fn place_of_gap(bytes: &[u8]) -> Option<usize>
 }
 
 // The word with which the bytes begin, and what stands behind the gap that ends it.
+#[inline(always)]
 fn first_word(bytes: &[u8]) -> (&[u8], &[u8])
     requires { begins_word bytes.now ≡ true }
     ensures { words_of bytes.now ≡ result.0.now ∷ words_of result.1.now }
@@ -115,6 +121,7 @@ fn first_word(bytes: &[u8]) -> (&[u8], &[u8])
 }
 
 // The first word of the bytes and what stands behind it, or `None` where there is no word.
+#[inline(always)]
 fn split_word(bytes: &[u8]) -> Option<(&[u8], &[u8])>
     ensures { MatchOption result (words_of bytes.now ≡ [])
         (λ parts. words_of bytes.now ≡ parts.0.now ∷ words_of parts.1.now) }
@@ -128,6 +135,7 @@ fn split_word(bytes: &[u8]) -> Option<(&[u8], &[u8])>
 }
 
 /// The bytes from the first word on, or none where there is no word.
+#[inline(always)]
 pub(crate) fn behind_gaps(bytes: &[u8]) -> &[u8]
     ensures words { words_of result.now ≡ words_of bytes.now }
     ensures begins { begins_word result.now ≡ is_filled result.now }
