@@ -4,6 +4,7 @@ ghost use Rattle.std.specs.Prelude.{◌≡◌, ◌<◌, map, SomeIff};
 ghost use Rattle.std.specs.List.{position};
 ghost use Rattle.std.specs.Str.{bytes_eq};
 ghost use Rattle.access_vectors.specs.Table.{perm_count, perm_words, perm_word, perm_named};
+ghost use Rattle.access_vectors.specs.declared.class.Class.TheVariants.{File, Dir, Process, Port, Security};
 
 use crate::class::Class;
 use std::marker::Model;
@@ -112,10 +113,85 @@ pub fn perm_name(perm: Perm) -> &'static str
     names(perm.class)[usize::from(perm.index)]
 }
 
-fn place_of(names: &[&str], name: &[u8]) -> Option<usize>
-    ensures { result ≡ position (λ word. bytes_eq word.now name.now) names.now }
+fn file_place(name: &[u8]) -> Option<u8>
+    ensures { result ≡ position (λ word. bytes_eq word name.now) (perm_words File) }
 {
-    names.iter().position(|word| word.as_bytes() == name)
+    match name {
+        b"read" => Some(0),
+        b"write" => Some(1),
+        b"append" => Some(2),
+        b"create" => Some(3),
+        b"unlink" => Some(4),
+        b"getattr" => Some(5),
+        b"relabelfrom" => Some(6),
+        b"relabelto" => Some(7),
+        _ => None,
+    }
+}
+
+fn dir_place(name: &[u8]) -> Option<u8>
+    ensures { result ≡ position (λ word. bytes_eq word name.now) (perm_words Dir) }
+{
+    match name {
+        b"read" => Some(0),
+        b"search" => Some(1),
+        b"create" => Some(2),
+        b"add_name" => Some(3),
+        b"remove_name" => Some(4),
+        b"getattr" => Some(5),
+        b"relabelfrom" => Some(6),
+        b"relabelto" => Some(7),
+        _ => None,
+    }
+}
+
+fn process_place(name: &[u8]) -> Option<u8>
+    ensures { result ≡ position (λ word. bytes_eq word name.now) (perm_words Process) }
+{
+    match name {
+        b"fork" => Some(0),
+        b"transition" => Some(1),
+        b"signal" => Some(2),
+        b"ptrace" => Some(3),
+        b"exit" => Some(4),
+        b"wait" => Some(5),
+        b"getattr" => Some(6),
+        _ => None,
+    }
+}
+
+fn port_place(name: &[u8]) -> Option<u8>
+    ensures { result ≡ position (λ word. bytes_eq word name.now) (perm_words Port) }
+{
+    match name {
+        b"name_bind" => Some(0),
+        b"recv" => Some(1),
+        b"send" => Some(2),
+        b"connect" => Some(3),
+        b"getattr" => Some(4),
+        _ => None,
+    }
+}
+
+fn security_place(name: &[u8]) -> Option<u8>
+    ensures { result ≡ position (λ word. bytes_eq word name.now) (perm_words Security) }
+{
+    match name {
+        b"load_policy" => Some(0),
+        _ => None,
+    }
+}
+
+fn place_of(class: Class, name: &[u8]) -> Option<u8>
+    ensures { result ≡ position (λ word. bytes_eq word name.now) (perm_words class) }
+{
+    match class {
+        Class::File => file_place(name),
+        Class::Dir => dir_place(name),
+        Class::Process => process_place(name),
+        Class::Port => port_place(name),
+        Class::Security => security_place(name),
+    }
 }
 
 /// The permission of a class with that name, or `None` exactly where the class has none.
@@ -123,11 +199,8 @@ fn place_of(names: &[&str], name: &[u8]) -> Option<usize>
 pub fn perm_of(class: Class, name: &[u8]) -> Option<Perm>
     ensures { result ≡ perm_named class name.now }
 {
-    match place_of(names(class), name) {
-        Some(index) => Some(Perm {
-            class,
-            index: index as u8,
-        }),
+    match place_of(class, name) {
+        Some(index) => Some(Perm { class, index }),
         None => None,
     }
 }

@@ -134,6 +134,10 @@ form_read n form.Header None = Ok (Some no_parts)
 form_read n form None = Err Order
 form_read n form (Some policy) = below_header n form policy >>= λ next. Ok (Some next)
 
+-- a line that may have no form
+abbrev pub formed_read : ℕ → Option Form → Option PolicyParts → Result (Option PolicyParts) FaultKind
+formed_read n formed above = found_or Syntax formed >>= λ form. form_read n form above
+
 -- what a line says, if anything
 unfoldable pub words_read : ℕ → List (List ℕ) → Option PolicyParts → Result (Option PolicyParts) FaultKind
 words_read n [] above = Ok above

@@ -185,8 +185,9 @@ fn labelled_form<'a>(labelling: Labelling, words: Words<'a>) -> Option<Form<'a>>
     Some(Form::Labelled(labelling, label))
 }
 
+/// The words of a line on permissions, or `None` where they are none.
 #[tactic(auto, unfolding(crate::specs::Forms::pattern_form))]
-fn pattern_form<'a>(mut words: Words<'a>) -> Option<PatternForm<'a>>
+pub fn pattern_form<'a>(mut words: Words<'a>) -> Option<PatternForm<'a>>
     ensures { result ≡ Forms.pattern_form words.entry }
 {
     let source = words.next()?;
@@ -228,11 +229,21 @@ fn label_form<'a>(mut words: Words<'a>) -> Option<LabelForm<'a>>
     }
 }
 
+/// Whether the word is `*`, which stands for all of a kind.
+pub(crate) fn is_star(word: &Word<'_>) -> bool
+    ensures { result ≡ Forms.is_star word.now }
+{
+    match word.as_bytes() {
+        b"*" => true,
+        _ => false,
+    }
+}
+
 #[tactic(auto, unfolding(crate::specs::Forms::source_of))]
 fn source_of<'a>(word: Word<'a>) -> Option<WhoOf<Word<'a>>>
     ensures { result ≡ Forms.source_of word.entry }
 {
-    if word.is(b"*") {
+    if is_star(&word) {
         return Some(WhoOf::Any);
     }
     if word.is_kind_form() {
@@ -272,7 +283,7 @@ fn are_perms(words: &Words<'_>) -> bool
     match rest.next() {
         None => false,
         Some(first) => {
-            if first.is(b"*") {
+            if is_star(&first) {
                 rest.next().is_none()
             } else {
                 first.is_name_form() && are_names(rest)

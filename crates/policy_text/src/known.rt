@@ -7,7 +7,7 @@ ghost use Rattle.text_lines.specs.declared.fault.FaultKind.TheVariants.{Unknown}
 ghost use Rattle.policy_text.specs.Known;
 
 use crate::draft::Draft;
-use crate::form::{Decision, LabelForm, PatternForm};
+use crate::form::{Decision, LabelForm, PatternForm, is_star};
 use access_vectors::{Class, Vector, class_of, perm_of};
 use flask_sid::{Memory, Name, Word};
 use policy_model::{Labelling, Pattern, RuleLine, Verdict, Who, WhoOf};
@@ -55,7 +55,7 @@ fn perms_of(class: Class, words: &Words<'_>) -> Option<Vector>
     match rest.next() {
         None => Some(Vector::empty()),
         Some(first) => {
-            if first.is(b"*") {
+            if is_star(&first) {
                 Some(whole_row(class))
             } else {
                 perms_from(class, &first, rest)

@@ -1,13 +1,15 @@
 //! One line of a policy text, below the lines above it.
 
-ghost use Rattle.std.specs.Prelude.{◌≡◌, ◌≤◌, OnOk};
+ghost use Rattle.std.specs.Prelude.{◌≡◌, ◌≤◌, ◌∷◌, OnOk};
+ghost use Rattle.policy_text.specs.Forms;
 ghost use Rattle.policy_text.specs.Leaving.{Leaves};
 ghost use Rattle.policy_text.specs.Grammar;
 
 use crate::declarations::{attribute_read, context_read, kind_read, listed_read};
 use crate::draft::Draft;
-use crate::form::{Form, line_form};
+use crate::form::{Decision, Form, line_form, pattern_form};
 use crate::rules::{decided_read, labelled_read, version_read};
+use flask_sid::Word;
 use std::alloc::Global;
 use text_lines::{FaultKind, Refusal, Words, line_words};
 
@@ -28,7 +30,7 @@ pub(crate) fn line_read<'a>(
     }
 }
 
-#[tactic(auto, unfolding(crate::specs::Grammar::words_read))]
+#[tactic(auto, unfolding(crate::specs::Grammar::words_read, crate::specs::Forms::line_form))]
 fn words_read<'a>(
     alloc: Global,
     number: u32,
@@ -39,10 +41,54 @@ fn words_read<'a>(
 {
     match words.next() {
         None => Ok(()),
-        Some(first) => match line_form(&first, words) {
-            None => Err(Refusal::Fault(FaultKind::Syntax)),
-            Some(form) => form_read(alloc, number, form, above),
+        Some(first) => {
+            if first.is(b"allow") {
+                return decided_line(alloc, number, Decision::Allow, words, above);
+            }
+            if first.is(b"withhold") {
+                return decided_line(alloc, number, Decision::Withhold, words, above);
+            }
+            other_line(alloc, number, &first, words, above)
+        }
+    }
+}
+
+// An `allow` or `withhold` line, which most lines of a long policy are: its words are read without a `Form` of them.
+#[inline(never)]
+#[tactic(auto, unfolding(crate::specs::Forms::decided_form, crate::specs::Grammar::form_read, crate::specs::Grammar::below_header))]
+fn decided_line<'a>(
+    alloc: Global,
+    number: u32,
+    decision: Decision,
+    words: Words<'a>,
+    above: &mut Option<Draft<'a>>,
+) -> Result<(), Refusal>
+    ensures { Leaves result above.new (Grammar.formed_read number (Forms.decided_form decision words.entry) above.old) }
+{
+    match pattern_form(words) {
+        None => Err(Refusal::Fault(FaultKind::Syntax)),
+        Some(pattern) => match above {
+            Some(policy) => decided_read(alloc, number, decision, &pattern, policy),
+            None => Err(Refusal::Fault(FaultKind::Order)),
         },
+    }
+}
+
+// Any line. It is not inlined, so that a rule line makes no room for what it holds.
+#[inline(never)]
+#[tactic(auto, unfolding(crate::specs::Grammar::words_read))]
+fn other_line<'a>(
+    alloc: Global,
+    number: u32,
+    first: &Word<'a>,
+    words: Words<'a>,
+    above: &mut Option<Draft<'a>>,
+) -> Result<(), Refusal>
+    ensures { Leaves result above.new (Grammar.words_read number (first.now ∷ words.entry) above.old) }
+{
+    match line_form(first, words) {
+        None => Err(Refusal::Fault(FaultKind::Syntax)),
+        Some(form) => form_read(alloc, number, form, above),
     }
 }
 
@@ -83,7 +129,7 @@ fn below_header<'a>(
         Form::Attribute(name, members) => attribute_read(alloc, n, name, members, policy),
         Form::Listed(listing, words) => listed_read(alloc, n, listing, words, policy),
         Form::Version => version_read(alloc, n, policy),
-        Form::Decided(decision, words) => decided_read(alloc, n, decision, words, policy),
+        Form::Decided(decision, words) => decided_read(alloc, n, decision, &words, policy),
         Form::Labelled(labelling, words) => labelled_read(alloc, n, labelling, words, policy),
     }
 }

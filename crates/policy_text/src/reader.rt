@@ -66,7 +66,7 @@ impl<'a> PolicyReader<'a> {
                 Ok(())
             }
             Err(refusal) => {
-                self.above = None;
+                forget(&mut self.above);
                 Err(refused_at(number, refusal))
             }
         }
@@ -91,6 +91,14 @@ impl<'a> PolicyReader<'a> {
             None => Err(ended_at(number)),
         }
     }
+}
+
+// Forgets what was read. It is not inlined, so that a line that is read makes no room for what is forgotten.
+#[inline(never)]
+fn forget(above: &mut Option<Draft<'_>>)
+    ensures { above.new ≡ None }
+{
+    *above = None;
 }
 
 fn ended_at(number: u32) -> TextFault

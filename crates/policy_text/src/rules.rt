@@ -29,10 +29,10 @@ pub(crate) fn decided_read<'a>(
     alloc: Global,
     line: u32,
     decision: Decision,
-    words: PatternForm<'a>,
+    words: &PatternForm<'a>,
     policy: &mut Draft<'a>,
 ) -> Result<(), Refusal>
-    ensures { Leaves result policy.new (Grammar.decided_read line decision words.entry policy.old) }
+    ensures { Leaves result policy.new (Grammar.decided_read line decision words.now policy.old) }
 {
     if !policy.has_version() {
         return Err(Refusal::Fault(FaultKind::Order));
@@ -40,7 +40,7 @@ pub(crate) fn decided_read<'a>(
     if words.is_long() || policy.newest_count() >= RULE_LIMIT {
         return Err(Refusal::Fault(FaultKind::Limit));
     }
-    let pattern = policy.pattern(alloc, line, &words)?;
+    let pattern = policy.pattern(alloc, line, words)?;
     policy.add_rule(deciding_rule(decision, pattern))?;
     Ok(())
 }
