@@ -261,3 +261,55 @@ own_begun kinds name set own place within = own place within ∙ sym (or_false (
     or_false : (b : Bool) → (b || false) ≡ b
     or_false true = refl
     or_false false = refl
+
+-- the type of a name is put into a set
+pub named_added : (kinds : List KindLine) (name : List ℕ) (at : ℕ) (before now : ℕ → Bool) → AreApart kinds → IsPlaceOf kinds name at → ((place : ℕ) → now place ≡ ((at == place) || before place)) → (place : ℕ) → place < length kinds → now place ≡ (before place || bytes_eq name (name_at kinds place))
+named_added kinds name at before now apart is added place within =
+    added place
+    ∙ ap (λ b. b || before place) (same_place kinds at place apart is.within within ∙ ap (λ n. bytes_eq n (name_at kinds place)) is.named)
+    ∙ swapped (bytes_eq name (name_at kinds place)) (before place)
+  where
+    swapped : (a b : Bool) → (a || b) ≡ (b || a)
+    swapped true true = refl
+    swapped true false = refl
+    swapped false true = refl
+    swapped false false = refl
+
+-- a name of no type adds none
+pub named_missed : (kinds : List KindLine) (name : List ℕ) (before : ℕ → Bool) → is_kind kinds name ≡ false → (place : ℕ) → place < length kinds → before place ≡ (before place || bytes_eq name (name_at kinds place))
+unfolding is_kind
+named_missed kinds name before none place within =
+    let apart : bytes_eq name (name_at kinds place) ≡ false = false_from_ne_true _ (λ same. false≢true (sym none ∙ list_any_at (λ kind. bytes_eq kind.name name) kinds place no_kind within (name_same (name_at kinds place) name (sym (same_name name (name_at kinds place) same))))) in
+    sym (ap (λ b. before place || b) apart ∙ or_false (before place))
+  where
+    or_false : (b : Bool) → (b || false) ≡ b
+    or_false true = refl
+    or_false false = refl
+
+-- the types of the first members are in a set, besides those that it had
+abbrev pub HasMembers : (List ℕ → Option ℕ) → List (List ℕ) → (ℕ → Bool) → (ℕ → Bool) → Type 0
+HasMembers found members before now =
+    (kinds : List KindLine) → AreApart kinds → ArePlaces kinds found → (place : ℕ) → place < length kinds → now place ≡ (before place || list_any (λ member. bytes_eq member (name_at kinds place)) members)
+
+-- none yet
+pub members_begun : (found : List ℕ → Option ℕ) (before : ℕ → Bool) → HasMembers found [] before before
+members_begun found before kinds apart places place within = sym (or_false (before place))
+  where
+    or_false : (b : Bool) → (b || false) ≡ b
+    or_false true = refl
+    or_false false = refl
+
+-- one member more
+pub members_more : (found : List ℕ → Option ℕ) (members : List (List ℕ)) (i : ℕ) (member : List ℕ) (before now now' : ℕ → Bool) → i < length members → member ≡ get_or members i member
+    → ((kinds : List KindLine) → AreApart kinds → ArePlaces kinds found → (place : ℕ) → place < length kinds → now' place ≡ (now place || bytes_eq member (name_at kinds place)))
+    → HasMembers found (take i members) before now → HasMembers found (take (i + 1) members) before now'
+members_more found members i member before now now' within read added has kinds apart places place below =
+    let is : List ℕ → Bool = λ one. bytes_eq one (name_at kinds place) in
+    added kinds apart places place below
+    ∙ ap (λ b. b || is member) (has kinds apart places place below)
+    ∙ joined_or (before place) (list_any is (take i members)) (is member)
+    ∙ ap (λ b. before place || b) (ap (λ one. list_any is (take i members) || is one) read ∙ sym (list_any_more is members i member within))
+  where
+    joined_or : (a b c : Bool) → ((a || b) || c) ≡ (a || (b || c))
+    joined_or true b c = refl
+    joined_or false b c = refl

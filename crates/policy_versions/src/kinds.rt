@@ -1,15 +1,16 @@
 //! Which declared types a name in a line means: its type, or the members of its attribute.
 
-ghost use Rattle.std.specs.Prelude.{◌≡◌, ℕ, ◌<◌, ◌≤◌, ◌||◌, false, length, IfOk, MatchOption};
+ghost use Rattle.std.specs.Prelude.{◌≡◌, ℕ, ◌<◌, ◌≤◌, ◌||◌, false, List, length, IfOk, MatchOption};
 ghost use Rattle.std.specs.List.{list_any};
 ghost use Rattle.std.specs.Str.{bytes_eq};
 ghost use Rattle.std.specs.HashMap.{get};
 ghost use Rattle.policy_model.specs.declared.policy.PolicyParts.{PolicyParts};
+ghost use Rattle.policy_model.specs.declared.policy.KindLine.{KindLine};
 ghost use Rattle.policy_model.specs.Declarations.{is_kind};
 ghost use Rattle.policy_model.specs.Kept.{IsWholePolicy};
 ghost use Rattle.policy_versions.specs.Sets.{has_place};
 ghost use Rattle.policy_versions.specs.Places.{name_at};
-ghost use Rattle.policy_versions.specs.Kinds.{AreKindsOf, ArePlaces, AreSets, IsPlaceOf, IsSetOf, IsSourceSet};
+ghost use Rattle.policy_versions.specs.Kinds.{AreApart, AreKindsOf, ArePlaces, AreSets, IsPlaceOf, IsSetOf, IsSourceSet};
 
 use crate::kind::Kind;
 use crate::kind_set::KindSet;
@@ -34,7 +35,7 @@ impl Kinds {
     {
         let parts = policy.parts();
         let places = places_of(alloc, parts.kinds.as_slice())?;
-        let sets = sets_of(alloc, parts)?;
+        let sets = sets_of(alloc, parts, &places)?;
         Ok(Kinds {
             places,
             sets,
@@ -83,69 +84,72 @@ fn places_of(alloc: Global, kinds: &[KindLine]) -> Result<HashMap<Name, Kind>, M
     Ok(places)
 }
 
-fn sets_of(alloc: Global, policy: &PolicyParts) -> Result<HashMap<Name, KindSet>, Memory>
-    requires { length policy.now.kinds ≤ 128 }
+fn sets_of(
+    alloc: Global,
+    policy: &PolicyParts,
+    places: &HashMap<Name, Kind>,
+) -> Result<HashMap<Name, KindSet>, Memory>
+    requires apart { AreApart policy.now.kinds }
+    requires places { ArePlaces policy.now.kinds (get bytes_eq places.now) }
     ensures { IfOk result (λ sets. AreSets policy.now policy.now.kinds policy.now.attributes (get bytes_eq sets)) }
 {
     let mut sets = HashMap::new(alloc);
     'kinds: for kind in policy.kinds.as_slice() {
-        sets.insert(kind.name.copy(alloc)?, set_of(policy, &kind.name))?;
+        sets.insert(kind.name.copy(alloc)?, set_of(policy, places, &kind.name))?;
     }
     'attributes: for attribute in policy.attributes.as_slice() {
-        sets.insert(attribute.name.copy(alloc)?, set_of(policy, &attribute.name))?;
+        sets.insert(
+            attribute.name.copy(alloc)?,
+            set_of(policy, places, &attribute.name),
+        )?;
     }
     Ok(sets)
 }
 
 // The declared types that a name means.
-fn set_of(policy: &PolicyParts, name: &Name) -> KindSet
-    requires { length policy.now.kinds ≤ 128 }
+fn set_of(policy: &PolicyParts, places: &HashMap<Name, Kind>, name: &Name) -> KindSet
+    requires apart { AreApart policy.now.kinds }
+    requires places { ArePlaces policy.now.kinds (get bytes_eq places.now) }
     ensures { IsSetOf policy.now name.now result.words }
 {
-    let kinds = policy.kinds.as_slice();
-    let mut set = own_set(kinds, name);
+    let mut set = own_set(places, name);
     'attributes: for attribute in policy.attributes.as_slice() {
         if attribute.name.as_bytes() == name.as_bytes() {
-            add_members(&mut set, kinds, attribute);
+            add_members(&mut set, places, attribute);
         }
     }
     set
 }
 
-// The types of that very name.
-fn own_set(kinds: &[KindLine], name: &Name) -> KindSet
-    requires { length kinds.now ≤ 128 }
-    ensures { (place : ℕ) → place < length kinds.now
-        → has_place result.words place ≡ bytes_eq name.now (name_at kinds.now place) }
+// The type of that very name.
+fn own_set(places: &HashMap<Name, Kind>, name: &Name) -> KindSet
+    ensures { (kinds : List KindLine) → AreApart kinds → ArePlaces kinds (get bytes_eq places.now)
+        → (place : ℕ) → place < length kinds → has_place result.words place ≡ bytes_eq name.now (name_at kinds place) }
 {
     let mut set = KindSet::none();
-    'kinds: for place in 0..kinds.len() {
-        if name.as_bytes() == kinds[place].name.as_bytes() {
-            set.add(place);
-        }
-    }
+    add_named(&mut set, places, name);
     set
 }
 
 // Puts the types of an attribute into a set.
-fn add_members(set: &mut KindSet, kinds: &[KindLine], attribute: &AttributeLine)
-    requires { length kinds.now ≤ 128 }
-    ensures { (place : ℕ) → place < length kinds.now → has_place set.new.words place
-        ≡ (has_place set.old.words place || list_any (λ member. bytes_eq member (name_at kinds.now place)) attribute.now.members) }
+fn add_members(set: &mut KindSet, places: &HashMap<Name, Kind>, attribute: &AttributeLine)
+    ensures { (kinds : List KindLine) → AreApart kinds → ArePlaces kinds (get bytes_eq places.now)
+        → (place : ℕ) → place < length kinds → has_place set.new.words place
+        ≡ (has_place set.old.words place || list_any (λ member. bytes_eq member (name_at kinds place)) attribute.now.members) }
 {
-    'kinds: for place in 0..kinds.len() {
-        if has_member(attribute, kinds[place].name.as_bytes()) {
-            set.add(place);
-        }
+    'members: for member in attribute.members.as_slice() {
+        add_named(set, places, member);
     }
 }
 
-fn has_member(attribute: &AttributeLine, kind: &[u8]) -> bool
-    ensures { result ≡ list_any (λ member. bytes_eq member kind.now) attribute.now.members }
+// Puts the type of a name into a set, where there is one.
+fn add_named(set: &mut KindSet, places: &HashMap<Name, Kind>, name: &Name)
+    ensures { (kinds : List KindLine) → AreApart kinds → ArePlaces kinds (get bytes_eq places.now)
+        → (place : ℕ) → place < length kinds → has_place set.new.words place
+        ≡ (has_place set.old.words place || bytes_eq name.now (name_at kinds place)) }
 {
-    attribute
-        .members
-        .as_slice()
-        .iter()
-        .any(|member| member.as_bytes() == kind)
+    match places.get(name) {
+        Some(kind) => set.add(usize::from(kind.place())),
+        None => {}
+    }
 }

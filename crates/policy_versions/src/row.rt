@@ -63,6 +63,17 @@ impl Row {
         ensures { result ≡ false → (t : ℕ) → t < 128 → has_place targets.now.words t ≡ true
             → bit_and (slice_index self.now.cells t) bits ≡ 0 }
     {
+        match targets.only() {
+            Some(target) => self.cells[target] & bits != 0,
+            None => self.meets_some(targets, bits),
+        }
+    }
+
+    // Whether the cell of some target in a set has one of these bits, by a walk over all cells.
+    fn meets_some(&self, targets: &KindSet, bits: u16) -> bool
+        ensures { result ≡ false → (t : ℕ) → t < 128 → has_place targets.now.words t ≡ true
+            → bit_and (slice_index self.now.cells t) bits ≡ 0 }
+    {
         let mut met = 0;
         'cells: for t in 0..128usize {
             met |= if targets.words[t] == 0 {

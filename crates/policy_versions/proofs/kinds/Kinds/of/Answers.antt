@@ -4,8 +4,8 @@ use Rattle.policy_versions.proofs.kinds.Kinds.of.Goals as goal
 pub places_of-requires : goal.places_of-requires
 places_of-requires c = rw (c.as_slice.ensures, c.parts-parts.ensures.parts) (kinds_few c.args.policy.now c.parts-parts.ensures.kept)
 
-pub sets_of-requires : goal.sets_of-requires
-sets_of-requires c = rw c.parts-parts.ensures.parts (kinds_few c.args.policy.now c.parts-parts.ensures.kept)
+pub sets_of-requires-clause-apart : goal.sets_of-requires-clause-apart
+sets_of-requires-clause-apart c = rw c.parts-parts.ensures.parts (kinds_apart c.args.policy.now c.parts-parts.ensures.kept)
 
 pub returns : goal.returns
 returns c = record {

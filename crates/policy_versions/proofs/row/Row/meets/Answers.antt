@@ -1,12 +1,9 @@
-use Rattle.std.proofs.Common.{arith}
+use Rattle.std.proofs.Common.{◌≡◌, ◌∙◌, ◌==◌, true, sym, ap, get_or, bit_and, arith}
 use Rattle.std.proofs.lemmas.Bool.Decides.{nat_tests}
-use Rattle.policy_versions.specs.Sets.{has_place}
-use Rattle.policy_versions.proofs.RowLemmas.{meets_more}
 use Rattle.policy_versions.proofs.row.Row.meets.Goals as goal
-use Rattle.policy_versions.proofs.row.Row.meets.Goals.{then-targets-t-eq0, else-targets-t-eq0}
 
-pub cells-preserved : goal.cells-preserved
-cells-preserved c =
-    meets_more c.cells.t (has_place c.args.targets.now.words) c.args.self.now.cells c.args.bits c.cells.met c.if-targets-t-eq0.met
-    (λ has. elim c.if-targets-t-eq0.branch [ then-targets-t-eq0 w ↦ grind (arith, nat_tests, has) | else-targets-t-eq0 w ↦ grind (arith, nat_tests, has) ])
-    c.cells.invariant
+pub returns-in-Some : goal.returns-in-Some
+returns-in-Some c = λ none t within has.
+    let hit : (c.in-Some.target == t) ≡ true = sym (c.in-Some.ensures.alone t within) ∙ has in
+    let same : c.in-Some.target ≡ t = grind (arith, nat_tests, hit) in
+    rw (← same) (grind (arith, nat_tests, none))
