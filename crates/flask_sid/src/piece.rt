@@ -33,6 +33,7 @@ impl Piece {
     }
 
     /// A kept copy of these bytes.
+    #[inline(always)]
     pub fn of(alloc: Global, bytes: &[u8]) -> Result<Piece, Memory>
         ensures { IfOk result (λ piece. piece ≡ bytes.now) }
     {
