@@ -18,7 +18,6 @@ use std::alloc::Global;
 use std::marker::Model;
 use std::sync::Wait;
 use std::sync::ledger::Ledger;
-use std::test::Fail;
 
 /// A core that wants memory once. Contracts see the core that it stands for.
 #[derive(Drop)]
@@ -163,12 +162,18 @@ fn called<'d>(
 }
 
 #[test]
-fn a_call_that_wants_memory_adds_nothing(rt: HostRuntime) -> Result<(), Fail> {
+fn a_call_that_wants_memory_adds_nothing(rt: HostRuntime) {
     let alloc = rt.alloc();
     let decider = new_decider();
-    let (board, mut office) = opened_wanting(alloc, &decider).ok_or("memory")?;
-    let mut seat = board.seat(&mut office)?;
-    board.enter(&mut seat)?;
+    let Some((board, mut office)) = opened_wanting(alloc, &decider) else {
+        panic!(rt; "no board");
+    };
+    let Ok(mut seat) = board.seat(&mut office) else {
+        panic!(rt; "no seat");
+    };
+    let Ok(()) = board.enter(&mut seat) else {
+        panic!(rt; "no pass");
+    };
     assert_eq!(rt; called(&rt, alloc, &board, &mut seat), Err(Memory));
     assert_eq!(rt; seat.pass(), Some((0, 0)));
     assert_eq!(rt;
@@ -180,5 +185,4 @@ fn a_call_that_wants_memory_adds_nothing(rt: HostRuntime) -> Result<(), Fail> {
     assert_eq!(rt; office.out(), 0);
     let keeper = board.close(office);
     assert_eq!(rt; keeper.entries().len(), 1);
-    Ok(())
 }

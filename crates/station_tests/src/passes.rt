@@ -1,14 +1,12 @@
 //! Limits, passes, the cache over three numbers, and forced acknowledgements.
 
 use crate::board::{Counting, Refused, new_decider, opened};
-use crate::steps::{Said, Step, take};
+use crate::steps::{Said, Step, at_one_seat, at_two_seats};
 use access_vectors::Vector;
 use avc_rows::Origin;
-use epoch_gate::{GateFault, SeatFault};
+use epoch_gate::GateFault;
 use manager_history::NotifyFault;
 use std::alloc::Global;
-use std::sync::atomic::Ordering;
-use std::test::Fail;
 
 /// Why there is no gate with these limits.
 fn refusal(
@@ -41,12 +39,7 @@ fn limits_of_a_gate(rt: HostRuntime) {
 }
 
 #[test]
-fn limits_of_a_station(rt: HostRuntime) -> Result<(), Fail> {
-    let alloc = rt.alloc();
-    let decider = new_decider();
-    let (board, mut office) = opened(alloc, &decider, 1, 2, 1).ok().ok_or("memory")?;
-    let mut seat = board.seat(&mut office)?;
-    assert_eq!(rt; board.seat(&mut office).err(), Some(SeatFault::Full));
+fn limits_of_a_station(rt: HostRuntime) {
     let steps = [
         (Step::Enter, Said::Entered),
         (Step::Leave, Said::Left),
@@ -57,44 +50,31 @@ fn limits_of_a_station(rt: HostRuntime) -> Result<(), Fail> {
         (Step::Acknowledge, Said::done(1)),
         (Step::Notify(0), Said::Notified(Err(NotifyFault::Spent))),
     ];
-    take(&rt, alloc, &board, &mut office, &mut seat, &steps);
-    Ok(())
+    let _asked = at_one_seat(&rt, rt.alloc(), 2, 1, &steps);
 }
 
 #[test]
-fn older_passes_are_counted(rt: HostRuntime) -> Result<(), Fail> {
-    let alloc = rt.alloc();
-    let decider = new_decider();
-    let (board, mut office) = opened(alloc, &decider, 2, 9, 9).ok().ok_or("memory")?;
-    let mut first = board.seat(&mut office)?;
-    let mut second = board.seat(&mut office)?;
-    let steps = [
+fn older_passes_are_counted(rt: HostRuntime) {
+    let before = [
         (Step::Enter, Said::Entered),
         (Step::Notify(1), Said::Notified(Ok(1))),
     ];
-    take(&rt, alloc, &board, &mut office, &mut first, &steps);
-    let steps = [
+    let beside = [
         (Step::Enter, Said::Entered),
         (Step::Pass, Said::Pass(Some((1, 1)))),
         (Step::Acknowledge, Said::busy(1)),
         (Step::Leave, Said::Left),
         (Step::Acknowledge, Said::busy(1)),
     ];
-    take(&rt, alloc, &board, &mut office, &mut second, &steps);
-    let steps = [
+    let behind = [
         (Step::Leave, Said::Left),
         (Step::Acknowledge, Said::done(1)),
     ];
-    take(&rt, alloc, &board, &mut office, &mut first, &steps);
-    Ok(())
+    at_two_seats(&rt, rt.alloc(), &before, &beside, &behind);
 }
 
 #[test]
-fn cache_over_three_numbers(rt: HostRuntime) -> Result<(), Fail> {
-    let alloc = rt.alloc();
-    let decider = new_decider();
-    let (board, mut office) = opened(alloc, &decider, 1, 9, 9).ok().ok_or("memory")?;
-    let mut seat = board.seat(&mut office)?;
+fn cache_over_three_numbers(rt: HostRuntime) {
     let (all, fewer) = (Vector::of(7), Vector::of(6));
     let steps = [
         (Step::Enter, Said::Entered),
@@ -112,26 +92,18 @@ fn cache_over_three_numbers(rt: HostRuntime) -> Result<(), Fail> {
         (Step::Look, Said::Looked(Some((all, Origin::Asked)))),
         (Step::Leave, Said::Left),
     ];
-    take(&rt, alloc, &board, &mut office, &mut seat, &steps);
-    assert_eq!(rt; decider.asked.load(Ordering::SeqCst), 3);
-    Ok(())
+    assert_eq!(rt; at_one_seat(&rt, rt.alloc(), 9, 9, &steps), 3);
 }
 
 #[test]
-fn forced_acknowledgements_abort_older_calls(rt: HostRuntime) -> Result<(), Fail> {
-    let alloc = rt.alloc();
-    let decider = new_decider();
-    let (board, mut office) = opened(alloc, &decider, 2, 9, 9).ok().ok_or("memory")?;
-    let mut first = board.seat(&mut office)?;
-    let mut second = board.seat(&mut office)?;
-    let steps = [
+fn forced_acknowledgements_abort_older_calls(rt: HostRuntime) {
+    let before = [
         (Step::Enter, Said::Entered),
         (Step::Notify(1), Said::Notified(Ok(1))),
         (Step::Force, Said::done(1)),
         (Step::Read, Said::Aborted),
     ];
-    take(&rt, alloc, &board, &mut office, &mut first, &steps);
-    let steps = [
+    let beside = [
         (Step::Enter, Said::Entered),
         (Step::Pass, Said::Pass(Some((1, 1)))),
         (Step::Notify(0), Said::Notified(Ok(2))),
@@ -141,11 +113,9 @@ fn forced_acknowledgements_abort_older_calls(rt: HostRuntime) -> Result<(), Fail
         (Step::Notify(1), Said::Notified(Ok(3))),
         (Step::Acknowledge, Said::busy(1)),
     ];
-    take(&rt, alloc, &board, &mut office, &mut second, &steps);
-    let steps = [
+    let behind = [
         (Step::Leave, Said::Left),
         (Step::Acknowledge, Said::done(3)),
     ];
-    take(&rt, alloc, &board, &mut office, &mut first, &steps);
-    Ok(())
+    at_two_seats(&rt, rt.alloc(), &before, &beside, &behind);
 }

@@ -5,16 +5,17 @@ ghost use Rattle.epoch_gate.specs.Seats.{IsOfGate};
 ghost use Rattle.epoch_gate.specs.Known.{IsIdle, HasNoPass};
 ghost use Rattle.example_board.specs.PlainManager.{IsCall};
 
-use crate::board::{Board, Chair, Office};
+use crate::board::{Board, Chair, Office, new_decider, opened};
 use access_vectors::{Class, Vector};
 use avc_rows::Origin;
-use epoch_gate::Spent;
+use epoch_gate::{SeatFault, Spent};
 use example_board::{BoardCall, BoardReply};
 use flask_sid::Sid;
 use manager_history::{Ack, Answer, NotifyFault, Receipt};
 use std::alloc::Global;
 use std::process::Abort;
 use std::sync::Wait;
+use std::sync::atomic::Ordering;
 
 /// What a seat or the administrator does.
 #[derive(Clone, Copy, Debug)]
@@ -63,8 +64,52 @@ impl Said {
     }
 }
 
+/// What a new board of one seat, with this quota and so many changes at most, says to these steps is compared with what they list. A second
+/// seat is refused. The result is how often the decider was asked.
+pub(crate) fn at_one_seat(
+    rt: &(impl Wait + Abort),
+    alloc: Global,
+    quota: u32,
+    most: u32,
+    steps: &[(Step, Said)],
+) -> u64 {
+    let decider = new_decider();
+    let Ok((board, mut office)) = opened(alloc, &decider, 1, quota, most) else {
+        panic!(rt; "no board");
+    };
+    let Ok(mut seat) = board.seat(&mut office) else {
+        panic!(rt; "no seat");
+    };
+    assert_eq!(rt; board.seat(&mut office).err(), Some(SeatFault::Full));
+    take(rt, alloc, &board, &mut office, &mut seat, steps);
+    decider.asked.load(Ordering::SeqCst)
+}
+
+/// The same of a board of two seats: steps of the first, of the second, and of the first again.
+pub(crate) fn at_two_seats(
+    rt: &(impl Wait + Abort),
+    alloc: Global,
+    before: &[(Step, Said)],
+    beside: &[(Step, Said)],
+    behind: &[(Step, Said)],
+) {
+    let decider = new_decider();
+    let Ok((board, mut office)) = opened(alloc, &decider, 2, 9, 9) else {
+        panic!(rt; "no board");
+    };
+    let Ok(mut first) = board.seat(&mut office) else {
+        panic!(rt; "no first seat");
+    };
+    let Ok(mut second) = board.seat(&mut office) else {
+        panic!(rt; "no second seat");
+    };
+    take(rt, alloc, &board, &mut office, &mut first, before);
+    take(rt, alloc, &board, &mut office, &mut second, beside);
+    take(rt, alloc, &board, &mut office, &mut first, behind);
+}
+
 /// Takes steps of a seat and of the administrator one after another, and compares what is told of each.
-pub(crate) fn take<'d>(
+fn take<'d>(
     rt: &(impl Wait + Abort),
     alloc: Global,
     board: &Board<'d>,

@@ -13,7 +13,6 @@ use managed_run::Held;
 use manager_history::Ack;
 use std::alloc::Global;
 use std::sync::Wait;
-use std::test::Fail;
 
 /// Opens the client's slot 0 for reading, under a pass of its own.
 fn opens<'d>(rt: &impl Wait, alloc: Global, board: &Board<'d>, seat: &mut Chair<'d>) -> Said
@@ -65,13 +64,15 @@ fn settled<M: Managed, R: Wait>(rt: &R, held: &mut M) -> bool {
 }
 
 #[test]
-fn a_change_takes_a_right_that_is_held(rt: HostRuntime) -> Result<(), Fail> {
+fn a_change_takes_a_right_that_is_held(rt: HostRuntime) {
     let alloc = rt.alloc();
     let decider = new_decider();
-    let (board, mut office) = opened(alloc, &decider, 1, 536_870_912, 9)
-        .ok()
-        .ok_or("memory")?;
-    let mut seat = board.seat(&mut office)?;
+    let Ok((board, mut office)) = opened(alloc, &decider, 1, 536_870_912, 9) else {
+        panic!(rt; "no board");
+    };
+    let Ok(mut seat) = board.seat(&mut office) else {
+        panic!(rt; "no seat");
+    };
     assert_eq!(rt;
         opens(&rt, alloc, &board, &mut seat),
         Said::Replied(BoardReply::Done)
@@ -89,5 +90,4 @@ fn a_change_takes_a_right_that_is_held(rt: HostRuntime) -> Result<(), Fail> {
         policy: 1,
     };
     assert_eq!(rt; reads(&rt, alloc, &board, &mut seat), Said::Replied(denied));
-    Ok(())
 }
