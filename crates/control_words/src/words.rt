@@ -67,43 +67,155 @@ pub struct Request<'w> {
     pub command: Command<'w>,
 }
 
+/// A word behind a command: its name, what is said of it, and whether it has to be there.
+#[derive(Clone, Copy)]
+struct Place {
+    name: &'static str,
+    help: &'static str,
+    wanted: bool,
+}
+
+const FILE: Place = Place {
+    name: "FILE",
+    help: "a policy or a session, or - for standard input",
+    wanted: true,
+};
+
+const VERSION: Place = Place {
+    name: "VERSION",
+    help: "counted from 0",
+    wanted: true,
+};
+
+const TARGET: Place = Place {
+    name: "T",
+    help: "the type of the target",
+    wanted: true,
+};
+
+const CLASS: Place = Place {
+    name: "CLASS",
+    help: "file, dir, process, port or security",
+    wanted: true,
+};
+
+static ASK: [Place; 6] = [
+    FILE,
+    VERSION,
+    Place {
+        name: "S",
+        help: "the type of the source",
+        wanted: true,
+    },
+    TARGET,
+    CLASS,
+    Place {
+        name: "PERM",
+        help: "one permission of the class; without it all",
+        wanted: false,
+    },
+];
+
+static WHO: [Place; 5] = [
+    FILE,
+    VERSION,
+    TARGET,
+    CLASS,
+    Place {
+        name: "PERM",
+        help: "a permission of the class",
+        wanted: true,
+    },
+];
+
+static DIFF: [Place; 3] = [
+    FILE,
+    Place {
+        name: "V",
+        help: "a version, counted from 0",
+        wanted: true,
+    },
+    Place {
+        name: "W",
+        help: "another version",
+        wanted: true,
+    },
+];
+
+static WHY: [Place; 2] = [
+    FILE,
+    Place {
+        name: "LINE",
+        help: "the number of a line that runs",
+        wanted: true,
+    },
+];
+
+static SHOW: [Place; 1] = [FILE];
+
+static CHECK: [Place; 1] = [Place {
+    name: "FILE",
+    help: "a policy or a session; without it, or where it is -, standard input",
+    wanted: false,
+}];
+
 /// The program with its commands, for the parser of the words.
 pub fn program<'a>(alloc: Global) -> Result<Program<'a>, AllocError> {
-    let mut program = named(
+    let mut program = bare_program(alloc);
+    program = with_command(
+        alloc,
+        program,
+        "ask",
+        "What a version decides between two types, and by which lines",
+        &ASK,
+    )?;
+    program = with_command(
+        alloc,
+        program,
+        "who",
+        "Which types of sources have a permission",
+        &WHO,
+    )?;
+    program = with_command(
+        alloc,
+        program,
+        "diff",
+        "Which permissions two versions give differently",
+        &DIFF,
+    )?;
+    program = with_command(
+        alloc,
+        program,
+        "why",
+        "Why a line of a session was answered as it was",
+        &WHY,
+    )?;
+    program = with_command(
+        alloc,
+        program,
+        "show",
+        "The lines of a session with their answers",
+        &SHOW,
+    )?;
+    with_command(
+        alloc,
+        program,
+        "check",
+        "Whether a text is well formed, and what is wrong with it",
+        &CHECK,
+    )
+}
+
+// Few calls of the parser's builder stand in one function, since what it says of a program is long, and a proof of many such calls longer.
+
+/// The program with its version and its rules, and no command yet.
+fn bare_program<'a>(alloc: Global) -> Program<'a> {
+    let program = named(
         alloc,
         "flaskctl",
         "Answers questions about a policy, and says what is wrong with one.",
     );
-    program = with_command(with_rules(program), with_json(alloc, ask_program(alloc)?)?)?;
-    program = with_command(program, with_json(alloc, who_program(alloc)?)?)?;
-    program = with_command(program, with_json(alloc, diff_program(alloc)?)?)?;
-    program = with_command(program, with_json(alloc, why_program(alloc)?)?)?;
-    program = with_command(program, with_json(alloc, show_program(alloc)?)?)?;
-    with_command(program, with_json(alloc, check_program(alloc)?)?)
-}
-
-// Each call of the parser's builder stands in a function of its own, since what it says of a program is long, and a proof of many
-// such calls longer.
-
-fn named<'a>(alloc: Global, name: &'a str, about: &'a str) -> Program<'a> {
-    with_about(of_name(alloc, name), about)
-}
-
-fn of_name<'a>(alloc: Global, name: &'a str) -> Program<'a> {
-    Program::new(alloc, name)
-}
-
-fn with_about<'a>(program: Program<'a>, about: &'a str) -> Program<'a> {
-    program.about(about)
-}
-
-/// The program with its version, and the rule that a command is wanted.
-fn with_rules<'a>(program: Program<'a>) -> Program<'a> {
-    with_wanted_command(with_help(with_version(program)))
-}
-
-fn with_version<'a>(program: Program<'a>) -> Program<'a> {
-    program.version("1")
+    with_wanted_command(with_help(program.version("1")))
 }
 
 fn with_help<'a>(program: Program<'a>) -> Program<'a> {
@@ -118,141 +230,47 @@ fn with_wanted_command<'a>(program: Program<'a>) -> Program<'a> {
         .arg_required_else_help(true)
 }
 
-fn with_command<'a>(program: Program<'a>, command: Program<'a>) -> Result<Program<'a>, AllocError> {
-    program.subcommand(command)
+fn named<'a>(alloc: Global, name: &'a str, about: &'a str) -> Program<'a> {
+    Program::new(alloc, name).about(about)
 }
 
-fn with_argument<'a>(program: Program<'a>, argument: Arg<'a>) -> Result<Program<'a>, AllocError> {
-    program.arg(argument)
-}
-
-fn wanted<'a>(alloc: Global, name: &'a str, help: &'a str) -> Arg<'a> {
-    as_required(optional(alloc, name, help))
-}
-
-fn as_required<'a>(argument: Arg<'a>) -> Arg<'a> {
-    argument.required(true)
-}
-
-fn optional<'a>(alloc: Global, name: &'a str, help: &'a str) -> Arg<'a> {
-    with_text(argument_of(alloc, name), help)
-}
-
-fn argument_of<'a>(alloc: Global, name: &'a str) -> Arg<'a> {
-    Arg::new(alloc, name)
-}
-
-fn with_text<'a>(argument: Arg<'a>, help: &'a str) -> Arg<'a> {
-    argument.help(help)
-}
-
-fn flag<'a>(alloc: Global, name: &'a str, help: &'a str) -> Arg<'a> {
-    as_flag(optional(alloc, name, help), name)
-}
-
-fn as_flag<'a>(argument: Arg<'a>, name: &'a str) -> Arg<'a> {
-    argument.long(name).action(ArgAction::SetTrue)
-}
-
-/// A command that may answer as JSON.
-fn with_json<'a>(alloc: Global, program: Program<'a>) -> Result<Program<'a>, AllocError> {
-    with_argument(
-        program,
-        flag(alloc, "json", "writes the answer as one object of JSON"),
-    )
-}
-
-/// A program that wants one word more.
-fn with_word<'a>(
+/// The program with a command that has these words behind it.
+fn with_command<'a>(
     alloc: Global,
     program: Program<'a>,
     name: &'a str,
-    help: &'a str,
+    about: &'a str,
+    places: &[Place],
 ) -> Result<Program<'a>, AllocError> {
-    with_argument(program, wanted(alloc, name, help))
+    program.subcommand(command_named(alloc, name, about, places)?)
 }
 
-/// A command that reads a file.
-fn over_file<'a>(alloc: Global, name: &'a str, about: &'a str) -> Result<Program<'a>, AllocError> {
-    with_word(
-        alloc,
-        named(alloc, name, about),
-        "FILE",
-        "a policy or a session, or - for standard input",
-    )
+/// A command that has these words behind it, and may answer as JSON.
+fn command_named<'a>(
+    alloc: Global,
+    name: &'a str,
+    about: &'a str,
+    places: &[Place],
+) -> Result<Program<'a>, AllocError> {
+    let mut program = named(alloc, name, about);
+    'places: for place in places {
+        program = program.arg(argument(alloc, *place))?;
+    }
+    program.arg(json(alloc))
 }
 
-fn ask_program<'a>(alloc: Global) -> Result<Program<'a>, AllocError> {
-    let mut program = over_file(
-        alloc,
-        "ask",
-        "What a version decides between two types, and by which lines",
-    )?;
-    program = with_word(alloc, program, "VERSION", "counted from 0")?;
-    program = with_word(alloc, program, "S", "the type of the source")?;
-    program = with_word(alloc, program, "T", "the type of the target")?;
-    program = with_word(
-        alloc,
-        program,
-        "CLASS",
-        "file, dir, process, port or security",
-    )?;
-    with_argument(
-        program,
-        optional(alloc, "PERM", "one permission of the class; without it all"),
-    )
+fn argument<'a>(alloc: Global, place: Place) -> Arg<'a> {
+    Arg::new(alloc, place.name)
+        .help(place.help)
+        .required(place.wanted)
 }
 
-fn who_program<'a>(alloc: Global) -> Result<Program<'a>, AllocError> {
-    let mut program = over_file(alloc, "who", "Which types of sources have a permission")?;
-    program = with_word(alloc, program, "VERSION", "counted from 0")?;
-    program = with_word(alloc, program, "T", "the type of the target")?;
-    program = with_word(
-        alloc,
-        program,
-        "CLASS",
-        "file, dir, process, port or security",
-    )?;
-    with_word(alloc, program, "PERM", "a permission of the class")
+fn json<'a>(alloc: Global) -> Arg<'a> {
+    as_flag(Arg::new(alloc, "json").help("writes the answer as one object of JSON"))
 }
 
-fn diff_program<'a>(alloc: Global) -> Result<Program<'a>, AllocError> {
-    let mut program = over_file(
-        alloc,
-        "diff",
-        "Which permissions two versions give differently",
-    )?;
-    program = with_word(alloc, program, "V", "a version, counted from 0")?;
-    with_word(alloc, program, "W", "another version")
-}
-
-fn why_program<'a>(alloc: Global) -> Result<Program<'a>, AllocError> {
-    let program = over_file(
-        alloc,
-        "why",
-        "Why a line of a session was answered as it was",
-    )?;
-    with_word(alloc, program, "LINE", "the number of a line that runs")
-}
-
-fn show_program<'a>(alloc: Global) -> Result<Program<'a>, AllocError> {
-    over_file(alloc, "show", "The lines of a session with their answers")
-}
-
-fn check_program<'a>(alloc: Global) -> Result<Program<'a>, AllocError> {
-    let program = named(
-        alloc,
-        "check",
-        "Whether a text is well formed, and what is wrong with it",
-    );
-    with_argument(
-        program,
-        optional(
-            alloc,
-            "FILE",
-            "a policy or a session; without it, or where it is -, standard input",
-        ),
-    )
+fn as_flag<'a>(argument: Arg<'a>) -> Arg<'a> {
+    argument.long("json").action(ArgAction::SetTrue)
 }
 
 /// The request that the parsed words are.

@@ -6,10 +6,10 @@ ghost use Rattle.epoch_gate.specs.Seats.{IsOfGate};
 ghost use Rattle.epoch_gate.specs.Known.{IsIdle, HasPass, HasNoPass};
 ghost use Rattle.example_board.specs.PlainManager.{IsCall};
 
-use crate::board::{Counting, scripted, two_clients};
-use access_vectors::{Asker, Decider, Questions, Steps};
+use crate::board::{Counting, new_decider, two_clients};
+use access_vectors::{Asker, Decider, Questions, Steps, Vector};
 use epoch_gate::{Admin, Seat};
-use example_board::{BoardCore, BoardReply};
+use example_board::{BoardCall, BoardCore, BoardReply};
 use flask_sid::{Memory, Sid};
 use managed_run::{CoreDocket, Station};
 use manager_history::{Answer, Core, Keeper};
@@ -17,9 +17,7 @@ use retained_rights::EachBits;
 use std::alloc::Global;
 use std::marker::Model;
 use std::sync::Wait;
-use std::sync::atomic::AtomicU64;
 use std::sync::ledger::Ledger;
-use std::test::Fail;
 
 /// A core that wants memory once. Contracts see the core that it stands for.
 #[derive(Drop)]
@@ -142,13 +140,12 @@ fn opened_wanting<'d>(
     Station::new(alloc, keeper, decider, 1, 9, 9).ok()
 }
 
-/// A client's call by its mark: its reply, or none where it is aborted.
+/// A client's call that opens its slot 0: its reply, or none where it is aborted.
 fn called<'d>(
     rt: &impl Wait,
     alloc: Global,
     board: &Station<'d, Fake, Counting>,
     seat: &mut Seat<CoreDocket<'d, Fake, Counting>, Counting>,
-    mark: u32,
 ) -> Result<Option<BoardReply>, Memory>
     requires board { length board.now.fixed.opening.core.opening.clients ≡ 2 }
     requires seat { IsOfGate board.now seat.old × IsIdle seat.old × HasPass seat.old }
@@ -157,34 +154,35 @@ fn called<'d>(
     if seat.number() > 1 {
         return Err(Memory);
     }
-    match board.call(rt, alloc, seat, mark, scripted(mark))? {
+    let mode = Vector::of(3);
+    match board.call(rt, alloc, seat, 0, BoardCall::Open { slot: 0, mode })? {
         Answer::Did(reply) => Ok(Some(reply)),
         Answer::Aborted => Ok(None),
     }
 }
 
 #[test]
-fn a_call_that_wants_memory_adds_nothing(rt: HostRuntime) -> Result<(), Fail> {
+fn a_call_that_wants_memory_adds_nothing(rt: HostRuntime) {
     let alloc = rt.alloc();
-    let decider = Counting {
-        asked: AtomicU64::new(0),
+    let decider = new_decider();
+    let Some((board, mut office)) = opened_wanting(alloc, &decider) else {
+        panic!(rt; "no board");
     };
-    let (board, mut office) = opened_wanting(alloc, &decider).ok_or("memory")?;
-    let mut seat = board.seat(&mut office)?;
-    board.enter(&mut seat)?;
-    assert_eq!(rt; called(&rt, alloc, &board, &mut seat, 0), Err(Memory));
+    let Ok(mut seat) = board.seat(&mut office) else {
+        panic!(rt; "no seat");
+    };
+    let Ok(()) = board.enter(&mut seat) else {
+        panic!(rt; "no pass");
+    };
+    assert_eq!(rt; called(&rt, alloc, &board, &mut seat), Err(Memory));
     assert_eq!(rt; seat.pass(), Some((0, 0)));
     assert_eq!(rt;
-        called(&rt, alloc, &board, &mut seat, 0),
+        called(&rt, alloc, &board, &mut seat),
         Ok(Some(BoardReply::Done))
     );
     board.leave(&mut seat);
     board.retire(seat, &mut office);
     assert_eq!(rt; office.out(), 0);
-    if office.out() > 0 {
-        return Ok(());
-    }
     let keeper = board.close(office);
     assert_eq!(rt; keeper.entries().len(), 1);
-    Ok(())
 }

@@ -5,3 +5,9 @@
 mod board;
 #[cfg(test)]
 mod fake;
+#[cfg(test)]
+mod passes;
+#[cfg(test)]
+mod steps;
+#[cfg(test)]
+mod taking;
