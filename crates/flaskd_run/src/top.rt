@@ -31,12 +31,14 @@ use serial_run::{serial, summary};
 use session_lessons::learn;
 use session_text::Session;
 use std::alloc::Global;
+use std::mem::forget;
 use std::sync::Wait;
 use std::thread::Threads;
 use text_lines::TextFault;
 
 /// Runs the program by the words of its command, the program's own name not among them: reads the source or makes a session, does
-/// what the command asks with it, and writes what that prints to the sink.
+/// what the command asks with it, and writes what that prints to the sink. The memory of a session that ran to its end is left to
+/// the system, which takes it back with the program's.
 pub fn flaskd<R: Threads + Wait + Sync, S: Source, K: Sink, G: Stops + Sync>(
     rt: &R,
     alloc: Global,
@@ -202,7 +204,7 @@ fn run_session<R: Wait, K: Sink>(
 }
 
 /// Runs a session whose policy is compiled with a worker for each client and one for the administrator, and writes the managers'
-/// histories.
+/// histories. Their memory is left to the system, which takes it back with the program's.
 fn run_threads<R: Threads + Wait + Sync, K: Sink, G: Stops + Sync>(
     rt: &R,
     alloc: Global,
@@ -217,7 +219,9 @@ fn run_threads<R: Threads + Wait + Sync, K: Sink, G: Stops + Sync>(
 {
     let contexts = catalogue.sids();
     let ended = run_to_end(rt, alloc, session.into_parts(), catalogue, contexts, stops)?;
-    write_ended(alloc, &ended, contexts, sink)
+    let written = write_ended(alloc, &ended, contexts, sink);
+    forget(ended);
+    written
 }
 
 /// Runs a session whose policy is compiled, and writes its summary alone.

@@ -17,10 +17,11 @@ use run_output::{RunStop, Setting};
 use session_runner::{Opened, open};
 use session_text::SessionParts;
 use std::alloc::Global;
+use std::mem::forget;
 use std::sync::Wait;
 
 /// Runs a session on a decider, whose identifiers stand for these contexts, and writes its text. Where it stops before, a
-/// front of the text was written.
+/// front of the text was written. The memory of a run that ended is left to the system, which takes it back with the program's.
 pub fn serial<R: Wait, D: Decider, K: Sink>(
     rt: &R,
     alloc: Global,
@@ -50,10 +51,13 @@ pub fn serial<R: Wait, D: Decider, K: Sink>(
     };
     let mut printing = Printing::new(alloc, setting)?;
     runner.run_lines(rt, lines, &mut printing, sink)?;
-    write_end(alloc, &printing, runner.counts(), sink)
+    let written = write_end(alloc, &printing, runner.counts(), sink);
+    forget(runner);
+    written
 }
 
-/// Runs a session on a decider, and writes its summary alone. Where it stops before, a front of the summary was written.
+/// Runs a session on a decider, and writes its summary alone. Where it stops before, a front of the summary was written. The
+/// memory of a run that ended is left to the system, as in `serial`.
 pub fn summary<R: Wait, D: Decider, K: Sink>(
     rt: &R,
     alloc: Global,
@@ -75,5 +79,7 @@ pub fn summary<R: Wait, D: Decider, K: Sink>(
         audit: _,
     } = open(alloc, session, decider)?;
     runner.run_lines(rt, lines, &mut Quiet, &mut ())?;
-    write_counts(alloc, runner.counts(), sink)
+    let written = write_counts(alloc, runner.counts(), sink);
+    forget(runner);
+    written
 }
