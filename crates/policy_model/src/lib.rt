@@ -3,11 +3,13 @@
 #![tactic(auto)]
 
 mod deciding;
+mod guesses;
 mod labelling;
 mod matching;
 mod policy;
 mod text;
 
+pub use guesses::Guesses;
 pub use policy::{
     AttributeLine, ContextLine, KindLine, Labelling, Pattern, PolicyParts, RuleLine, Verdict,
     Version, Who, WhoOf,

@@ -7,3 +7,4 @@ pub mod DeclaredLemmas
 pub mod KeptLemmas
 pub mod IndexLemmas
 pub mod LongLemmas
+pub mod PlainLemmas

@@ -3,6 +3,7 @@ pub mod Above
 pub mod Leaving
 pub mod Known
 pub mod Grammar
+pub mod Plain
 pub mod Indexed
 pub mod Reading
 pub mod Example

@@ -1,13 +1,16 @@
 //! A policy as far as its text is read, with what it declares by an index.
 
-ghost use Rattle.std.specs.Prelude.{◌≡◌, ◌∷◌, ◌++◌, [], false, nat_le, length, OnOk, IfOk};
+ghost use Rattle.std.specs.Prelude.{◌≡◌, ◌∷◌, ◌++◌, [], true, false, nat_le, length, IsTrue, OnOk, IfOk};
 ghost use Rattle.std.specs.List.{list_all};
 ghost use Rattle.policy_model.specs.Declarations;
+ghost use Rattle.policy_model.specs.declared.policy.WhoOf.TheVariants.{Named};
 ghost use Rattle.policy_text.specs.Above;
 ghost use Rattle.policy_text.specs.Grammar;
+ghost use Rattle.policy_text.specs.Plain.{IsPlain};
 
 use crate::contexts::ContextIndex;
 use crate::form::Listing;
+use crate::plain::PlainNames;
 use flask_sid::{ContextOf, Memory, Name, Rows, Word, kept};
 use policy_model::{
     AttributeLine, ContextLine, KindLine, Pattern, PolicyParts, RuleLine, Version, WhoOf,
@@ -28,14 +31,15 @@ pub const VERSION_LIMIT: usize = 64;
 
 pub const RULE_LIMIT: usize = 1_024;
 
-/// What the lines above say. Its indexes have the names of types and of attributes, and the contexts. Contracts see the
-/// policy alone.
+/// What the lines above say. Its indexes have the names of types and of attributes, and the contexts, and its plain names are
+/// found without them. Contracts see the policy alone.
 #[derive(Drop)]
 pub(crate) struct Draft<'a> {
     policy: PolicyParts,
     kinds: WordIndex<'a>,
     attributes: WordIndex<'a>,
     contexts: ContextIndex<'a>,
+    plain: PlainNames<'a>,
 }
 
 impl<'a> Model for Draft<'a> {
@@ -46,7 +50,7 @@ impl<'a> Model for Draft<'a> {
 
     ghost view = { λ draft. draft.policy };
 
-    ghost invariant = { λ draft. IsIndexed draft.policy draft.kinds draft.attributes draft.contexts };
+    ghost invariant = { λ draft. IsIndexed draft.policy draft.kinds draft.attributes draft.contexts draft.plain };
 }
 
 impl<'a> Draft<'a> {
@@ -59,6 +63,7 @@ impl<'a> Draft<'a> {
             kinds: WordIndex::new(alloc),
             attributes: WordIndex::new(alloc),
             contexts: ContextIndex::new(alloc),
+            plain: PlainNames::new(alloc),
         }
     }
 
@@ -72,6 +77,7 @@ impl<'a> Draft<'a> {
             kinds: _,
             attributes: _,
             contexts,
+            plain: _,
         } = self;
         (policy, contexts)
     }
@@ -111,10 +117,23 @@ impl<'a> Draft<'a> {
         ensures { result ≡ Declarations.is_known_who self.now.kinds self.now.attributes who.now }
     {
         match who {
-            WhoOf::Named(name) => self.is_kind(name) || self.is_attribute(name),
+            WhoOf::Named(name) => {
+                if self.is_plain(name) {
+                    return true;
+                }
+                self.is_kind(name) || self.is_attribute(name)
+            }
             WhoOf::Any => true,
             WhoOf::Itself => true,
         }
+    }
+
+    /// Whether a name is found at first sight, and nothing is wrong with it. Where it is not found so, nothing is known.
+    #[inline(always)]
+    pub(crate) fn is_plain(&self, name: &Word<'a>) -> bool
+        ensures { IsTrue result → IsPlain self.now.kinds self.now.attributes name.now }
+    {
+        self.plain.has(name)
     }
 
     pub(crate) fn are_kinds(&self, names: Words<'a>) -> bool
@@ -197,6 +216,17 @@ impl<'a> Draft<'a> {
             let _line = self.policy.kinds.pop();
             return Err(memory);
         }
+        self.add_plain(name)
+    }
+
+    // Lets a declared name be found at first sight, if nothing is wrong with it.
+    fn add_plain(&mut self, name: &Word<'a>) -> Result<(), Memory>
+        requires { Declarations.is_known_who self.old.kinds self.old.attributes (Named name.now) ≡ true }
+        ensures { self.new ≡ self.old }
+    {
+        if name.is_kind_form() && !name.is_long() {
+            self.plain.add(name)?;
+        }
         Ok(())
     }
 
@@ -222,7 +252,7 @@ impl<'a> Draft<'a> {
             let _line = self.policy.attributes.pop();
             return Err(memory);
         }
-        Ok(())
+        self.add_plain(name)
     }
 
     /// Declares a context that is new, and its type where that is new.

@@ -1,10 +1,12 @@
 //! What the names in a line stand for, where the lines above and the table of classes know them.
 
-ghost use Rattle.std.specs.Prelude.{◌≡◌, ◌∷◌, IfOk};
+ghost use Rattle.std.specs.Prelude.{◌≡◌, ◌∷◌, false, Some, IfOk, IfSome};
 ghost use Rattle.text_lines.specs.ResultSteps.{found_or};
 ghost use Rattle.text_lines.specs.Refusals.{Gives};
 ghost use Rattle.text_lines.specs.declared.fault.FaultKind.TheVariants.{Unknown};
+ghost use Rattle.policy_text.specs.Forms.{is_end};
 ghost use Rattle.policy_text.specs.Known;
+ghost use Rattle.policy_text.specs.Plain.{IsRuleRead};
 
 use crate::draft::Draft;
 use crate::form::{Decision, LabelForm, PatternForm, is_star};
@@ -64,6 +66,18 @@ fn perms_of(class: Class, words: &Words<'_>) -> Option<Vector>
     }
 }
 
+// The permissions that one or more names are, or `None` for any other words.
+fn plain_perms(class: Class, words: Words<'_>) -> Option<Vector>
+    ensures known { IfSome result (λ perms. Known.perms_named class 0 words.entry ≡ Some perms) }
+    ensures some { IfSome result (λ perms. is_end words.entry ≡ false) }
+{
+    let mut rest = words;
+    match rest.next() {
+        None => None,
+        Some(first) => perms_from(class, &first, rest),
+    }
+}
+
 fn kept_who(alloc: Global, words: &WhoOf<Word<'_>>) -> Result<Who, Memory>
     ensures { IfOk result (λ who. who ≡ words.now) }
 {
@@ -105,6 +119,41 @@ impl<'a> Draft<'a> {
             class,
             perms,
         })
+    }
+
+    /// The rule line of an `allow` or `withhold` line with which nothing is wrong at first sight, by one walk over its words. `None`
+    /// for any other line, of which nothing is known.
+    #[inline(always)]
+    pub(crate) fn plain_rule(
+        &self,
+        alloc: Global,
+        line: u32,
+        decision: Decision,
+        words: &Words<'a>,
+    ) -> Result<Option<RuleLine>, Memory>
+        ensures { IfOk result (λ found. IfSome found (IsRuleRead line decision words.now self.now)) }
+    {
+        let mut rest = words.again();
+        let (Some(source), Some(target), Some(class)) = (rest.next(), rest.next(), rest.next())
+        else {
+            return Ok(None);
+        };
+        if !self.is_plain(&source) || !self.is_plain(&target) {
+            return Ok(None);
+        }
+        let Some(class) = class_of(class.as_bytes()) else {
+            return Ok(None);
+        };
+        let Some(perms) = plain_perms(class, rest) else {
+            return Ok(None);
+        };
+        Ok(Some(RuleLine {
+            line,
+            source: WhoOf::Named(Name::of(alloc, &source)?),
+            target: WhoOf::Named(Name::of(alloc, &target)?),
+            class,
+            verdict: decided(decision, perms),
+        }))
     }
 
     /// The rule line that the words of a line are, which give a type. `Unknown` as with `pattern`.

@@ -13,6 +13,7 @@ mod form;
 mod known;
 mod line;
 mod long;
+mod plain;
 mod reader;
 mod rules;
 

@@ -8,7 +8,7 @@ ghost use Rattle.policy_text.specs.Grammar;
 use crate::declarations::{attribute_read, context_read, kind_read, listed_read};
 use crate::draft::Draft;
 use crate::form::{Decision, Form, line_form, pattern_form};
-use crate::rules::{decided_read, labelled_read, version_read};
+use crate::rules::{decided_read, labelled_read, plain_read, version_read};
 use flask_sid::Word;
 use std::alloc::Global;
 use text_lines::{FaultKind, Refusal, Words, line_words};
@@ -53,10 +53,30 @@ fn words_read<'a>(
     }
 }
 
-// An `allow` or `withhold` line, which most lines of a long policy are: its words are read without a `Form` of them.
+// An `allow` or `withhold` line, which most lines of a long policy are. With nearly each of them nothing is wrong, and then its
+// words are walked over once.
+#[inline(never)]
+fn decided_line<'a>(
+    alloc: Global,
+    number: u32,
+    decision: Decision,
+    words: Words<'a>,
+    above: &mut Option<Draft<'a>>,
+) -> Result<(), Refusal>
+    ensures { Leaves result above.new (Grammar.formed_read number (Forms.decided_form decision words.entry) above.old) }
+{
+    if let Some(policy) = above {
+        if plain_read(alloc, number, decision, &words, policy)? {
+            return Ok(());
+        }
+    }
+    worded_line(alloc, number, decision, words, above)
+}
+
+// An `allow` or `withhold` line. Its form is told first, and what its names stand for second.
 #[inline(never)]
 #[tactic(auto, unfolding(crate::specs::Forms::decided_form, crate::specs::Grammar::form_read, crate::specs::Grammar::below_header))]
-fn decided_line<'a>(
+fn worded_line<'a>(
     alloc: Global,
     number: u32,
     decision: Decision,

@@ -13,4 +13,5 @@ invariant_of-self-in-Err c =
       kinds = c.self.invariant.kinds;
       attributes = c.self.invariant.attributes;
       contexts = rw (as_before, c.in-Err.ensures.err) c.self.invariant.contexts;
+      plain = c.self.invariant.plain;
     }
