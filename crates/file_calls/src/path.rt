@@ -1,6 +1,6 @@
 //! Paths, as lists of their parts.
 
-ghost use Rattle.std.specs.Prelude.{◌≡◌, ◌-◌, ◌==◌, [], ◌∷◌, ◌++◌, length, take, OnOk, OnErr, slice_get};
+ghost use Rattle.std.specs.Prelude.{◌≡◌, ◌-◌, ◌==◌, [], ◌∷◌, ◌++◌, length, take, OnOk, OnErr, IfOk, slice_get};
 ghost use Rattle.std.specs.Option.{option_copied};
 ghost use Rattle.file_calls.specs.Paths.{same_path};
 
@@ -30,6 +30,16 @@ impl FilePath {
         FilePath {
             parts: Rows::new(alloc),
         }
+    }
+
+    /// The path `/`, with room for so many parts.
+    pub fn with_room(alloc: Global, parts: usize) -> Result<FilePath, Memory>
+        ensures { IfOk result (λ path. path ≡ []) }
+    {
+        let parts = Vec::with_capacity(alloc, parts)?;
+        Ok(FilePath {
+            parts: Rows::from_vec(parts),
+        })
     }
 
     /// Adds a part at the end. After `Memory` the path is as before.

@@ -50,10 +50,22 @@ impl<'a> Word<'a> {
     }
 
     /// Whether the word is made of these bytes.
+    #[inline(always)]
     pub fn is(&self, bytes: &[u8]) -> bool
         ensures { result ≡ bytes_eq self.now bytes.now }
     {
-        self.bytes == bytes
+        // Byte by byte, since the bytes are mostly a literal: then no loop is left.
+        if self.bytes.len() != bytes.len() {
+            return false;
+        }
+        let mut at = 0;
+        'bytes: while at < bytes.len() {
+            if self.bytes[at] != bytes[at] {
+                return false;
+            }
+            at += 1;
+        }
+        true
     }
 
     /// Whether the word would be a name but for its length: a lower-case letter, then lower-case letters,

@@ -1,6 +1,6 @@
 //! Paths, as the texts write them.
 
-ghost use Rattle.std.specs.Prelude.{◌≡◌, [], ◌∷◌, nat_lt, length, IfOk, MatchOption};
+ghost use Rattle.std.specs.Prelude.{◌≡◌, ◌≤◌, [], ◌∷◌, false, true, nat_lt, length, IfOk, MatchOption};
 ghost use Rattle.std.specs.List.{list_all, list_any, slice_split};
 ghost use Rattle.std.specs.Option.{option_map};
 ghost use Rattle.flask_sid.specs.Names;
@@ -127,7 +127,18 @@ impl<'a> Parts<'a> {
     pub fn is_long(&self) -> bool
         ensures { result ≡ PathForms.is_long_path self.now }
     {
-        self.are_many() || self.has_long_part()
+        !self.is_short() && (self.are_many() || self.has_long_part())
+    }
+
+    /// Whether the text is so short that no part of it is too long, and no more parts than a path may have.
+    #[tactic(auto, using(crate::proofs::ShortLemmas::short_path), unfolding(crate::specs::PathForms::is_long_path))]
+    fn is_short(&self) -> bool
+        ensures { result ≡ true → PathForms.is_long_path self.now ≡ false }
+    {
+        match self.rest {
+            None => true,
+            Some(rest) => rest.len() < PART_LIMIT,
+        }
     }
 
     /// Whether there are more parts than a path may have.
@@ -158,12 +169,25 @@ impl<'a> Parts<'a> {
         false
     }
 
+    /// How many parts there are, and at most as many as a path may have.
+    fn count(&self) -> usize
+        ensures { result ≤ length self.now }
+    {
+        let mut parts = self.again();
+        for at in 0..PART_LIMIT {
+            let Some(_part) = parts.next() else {
+                return at;
+            };
+        }
+        PART_LIMIT
+    }
+
     /// A kept copy of the path.
     #[inline(always)]
     pub fn kept(&self, alloc: Global) -> Result<FilePath, Memory>
         ensures { IfOk result (λ path. path ≡ self.now) }
     {
-        let mut path = FilePath::new(alloc);
+        let mut path = FilePath::with_room(alloc, self.count())?;
         let mut parts = self.again();
         'parts: while let Some(part) = parts.next() {
             path.push(Piece::of(alloc, part)?)?;
