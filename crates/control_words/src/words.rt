@@ -9,7 +9,7 @@ use clap::{Arg, ArgAction, ArgMatches, Command as Program};
 use std::alloc::{AllocError, Global};
 
 /// The words of `ask`.
-#[derive(Clone, Copy, Debug)]
+#[derive(Clone, Copy)]
 pub struct AskWords<'w> {
     pub version: &'w str,
     pub source: &'w str,
@@ -19,7 +19,7 @@ pub struct AskWords<'w> {
 }
 
 /// The words of `who`.
-#[derive(Clone, Copy, Debug)]
+#[derive(Clone, Copy)]
 pub struct WhoWords<'w> {
     pub version: &'w str,
     pub target: &'w str,
@@ -28,20 +28,20 @@ pub struct WhoWords<'w> {
 }
 
 /// The words of `diff`.
-#[derive(Clone, Copy, Debug)]
+#[derive(Clone, Copy)]
 pub struct DiffWords<'w> {
     pub before: &'w str,
     pub after: &'w str,
 }
 
 /// The words of `why`.
-#[derive(Clone, Copy, Debug)]
+#[derive(Clone, Copy)]
 pub struct WhyWords<'w> {
     pub line: &'w str,
 }
 
 /// What is asked of a text.
-#[derive(Clone, Copy, Debug)]
+#[derive(Clone, Copy)]
 pub enum Command<'w> {
     /// What a version decides between two types, and by which lines.
     Ask(AskWords<'w>),
@@ -58,7 +58,7 @@ pub enum Command<'w> {
 }
 
 /// What the words of the command line ask.
-#[derive(Clone, Copy, Debug)]
+#[derive(Clone, Copy)]
 pub struct Request<'w> {
     /// The name of the file, `-` for standard input.
     pub file: &'w str,

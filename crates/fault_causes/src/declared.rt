@@ -1,107 +1,107 @@
-//! What the lines above a line declare.
+//! What the lines above and below a line declare.
 
 use crate::lines::word_at;
 use crate::scene::Scene;
-use flask_sid::Memory;
 
-/// A name that a line declares, with the number of that line.
-#[derive(Clone, Copy, Debug)]
-pub(crate) struct Declared<'a> {
-    pub(crate) line: u32,
-    pub(crate) name: &'a str,
+/// What is looked for among lines.
+#[derive(Clone, Copy)]
+pub(crate) enum Sought<'n> {
+    /// A line with this first word.
+    Head(&'n str),
+    /// A line with this first word that declares the second.
+    Declared(&'n str, &'n str),
+    /// A context of this type.
+    Kind(&'n str),
+    /// A context of this user or role.
+    Owner(&'n str),
+    /// The label of a port, however its number is written.
+    Port(&'n str),
+    /// Any line that declares this name.
+    Any(&'n str),
 }
 
 impl<'a> Scene<'a> {
-    /// What stands at a place of the lines above with this first word.
-    pub(crate) fn declared(&self, first: &str, at: usize) -> Result<Vec<Declared<'a>>, Memory> {
-        let mut found = Vec::new(self.alloc);
-        'lines: for (line, text) in self.above.as_slice() {
-            if word_at(*text, 0) == first {
-                found.push(Declared {
-                    line: *line,
-                    name: word_at(*text, at),
-                })?;
-            }
+    /// The number of the first such line above.
+    pub(crate) fn line_above(&self, sought: Sought<'_>) -> Option<u32> {
+        Some(first_of(self.above.as_slice(), sought)?.0)
+    }
+
+    /// The number of the first such line below.
+    pub(crate) fn line_below(&self, sought: Sought<'_>) -> Option<u32> {
+        Some(first_of(self.below.as_slice(), sought)?.0)
+    }
+
+    /// The first such context above.
+    pub(crate) fn context(&self, sought: Sought<'_>) -> Option<&'a str> {
+        Some(word_at(first_of(self.above.as_slice(), sought)?.1, 1))
+    }
+
+    /// The first context above of a type.
+    pub(crate) fn context_of(&self, kind: &str) -> Option<&'a str> {
+        self.context(Sought::Kind(kind))
+    }
+
+    /// The line above that declares a type: a `type` line, or else a context.
+    pub(crate) fn line_of_type(&self, name: &str) -> Option<u32> {
+        match self.line_above(Sought::Declared("type", name)) {
+            Some(line) => Some(line),
+            None => self.line_above(Sought::Kind(name)),
         }
-        Ok(found)
     }
 
-    /// The types above: those of `type` lines, and those of contexts.
-    pub(crate) fn types(&self) -> Result<Vec<Declared<'a>>, Memory> {
-        let mut found = self.declared("type", 1)?;
-        let contexts = self.declared("context", 1)?;
-        'contexts: for context in contexts.as_slice() {
-            found.push(Declared {
-                line: context.line,
-                name: behind_colons(context.name),
-            })?;
+    /// The line above that declares a type or an attribute.
+    pub(crate) fn line_of_who(&self, name: &str) -> Option<u32> {
+        match self.line_of_type(name) {
+            Some(line) => Some(line),
+            None => self.line_above(Sought::Declared("attribute", name)),
         }
-        Ok(found)
     }
 
-    /// The types and attributes above.
-    pub(crate) fn types_and_attributes(&self) -> Result<Vec<Declared<'a>>, Memory> {
-        let mut found = self.types()?;
-        let attributes = self.declared("attribute", 1)?;
-        'attributes: for attribute in attributes.as_slice() {
-            found.push(*attribute)?;
-        }
-        Ok(found)
-    }
-
-    /// The names alone.
-    pub(crate) fn names(&self, declared: Vec<Declared<'a>>) -> Result<Vec<&'a str>, Memory> {
-        let mut names = Vec::new(self.alloc);
-        'declared: for one in declared.as_slice() {
-            names.push(one.name)?;
-        }
-        Ok(names)
-    }
-
-    /// Whether what stands behind lines above with this first word has a name among it.
-    pub(crate) fn is_declared(&self, first: &str, name: &str) -> Result<bool, Memory> {
-        Ok(line_of(self.declared(first, 1)?.as_slice(), name).is_some())
-    }
-
-    /// The first line above with this first word.
-    pub(crate) fn line_with(&self, first: &str) -> Option<u32> {
-        first_with(self.above.as_slice(), first)
-    }
-
-    /// The first line below with this first word.
-    pub(crate) fn line_below(&self, first: &str) -> Option<u32> {
-        first_with(self.below.as_slice(), first)
-    }
-
-    /// The first line below that declares a name.
-    pub(crate) fn declared_below(&self, name: &str) -> Option<u32> {
-        'lines: for (line, text) in self.below.as_slice() {
-            if declares(*text, name) {
-                return Some(*line);
-            }
-        }
-        None
+    /// Whether a line above with this first word declares a name.
+    pub(crate) fn is_declared(&self, first: &str, name: &str) -> bool {
+        self.line_above(Sought::Declared(first, name)).is_some()
     }
 }
 
-/// The number of the first of these lines that has this first word.
-fn first_with(lines: &[(u32, &[u8])], first: &str) -> Option<u32> {
-    'lines: for (line, text) in lines {
-        if word_at(*text, 0) == first {
+/// The first of some lines that is what is looked for, with its number.
+fn first_of<'a>(lines: &[(u32, &'a [u8])], sought: Sought<'_>) -> Option<(u32, &'a [u8])> {
+    'lines: for line in lines {
+        if is_sought(line.1, sought) {
             return Some(*line);
         }
     }
     None
 }
 
-/// Whether a line declares a name.
-fn declares(line: &[u8], name: &str) -> bool {
+fn is_sought(line: &[u8], sought: Sought<'_>) -> bool {
     let (first, second) = (word_at(line, 0), word_at(line, 1));
-    if first == "context" {
-        return second == name || behind_colons(second) == name;
+    match sought {
+        Sought::Head(head) => first == head,
+        Sought::Declared(head, name) => first == head && second == name,
+        Sought::Kind(name) => first == "context" && behind_colons(second) == name,
+        Sought::Owner(name) => first == "context" && is_owner(second, name),
+        Sought::Port(number) => first == "port" && without_zeros(second) == without_zeros(number),
+        Sought::Any(name) => declares(first, second, name),
     }
-    second == name
-        && (first == "type" || first == "attribute" || first == "client" || first == "dir")
+}
+
+/// Whether a line with these words declares a name.
+fn declares(first: &str, second: &str, name: &str) -> bool {
+    match first {
+        "context" => second == name || behind_colons(second) == name,
+        "type" | "attribute" | "client" | "dir" => second == name,
+        _ => false,
+    }
+}
+
+/// Whether a name is the user or the role of a context.
+fn is_owner(context: &str, name: &str) -> bool {
+    is_user(context, name) || context.split(':').nth(1) == Some(name)
+}
+
+/// Whether a name is the user of a context.
+pub(crate) fn is_user(context: &str, name: &str) -> bool {
+    context.split(':').nth(0) == Some(name)
 }
 
 /// The last of the names of a context.
@@ -109,12 +109,7 @@ pub(crate) fn behind_colons(context: &str) -> &str {
     context.split(':').last().unwrap_or("")
 }
 
-/// The line that declares a name first.
-pub(crate) fn line_of(declared: &[Declared<'_>], name: &str) -> Option<u32> {
-    'declared: for one in declared {
-        if one.name == name {
-            return Some(one.line);
-        }
-    }
-    None
+/// The digits of a number without the zeros at its front.
+fn without_zeros(digits: &str) -> &str {
+    digits.trim_start_matches('0')
 }

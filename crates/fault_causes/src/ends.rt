@@ -1,9 +1,10 @@
 //! Texts that end too early.
 
+use crate::declared::Sought;
 use crate::places::Place;
 use crate::scene::Scene;
 
-impl<'a> Scene<'a> {
+impl Scene<'_> {
     /// What a text lacks at its end, or at its line `session`.
     pub(crate) fn lacked(&self, is_session: bool) -> &'static str {
         if self.place == Place::Setup {
@@ -12,13 +13,13 @@ impl<'a> Scene<'a> {
         if self.place == Place::Run {
             return "the text ends too early";
         }
-        if self.line_with("policy").is_none() {
+        if self.line_above(Sought::Head("policy")).is_none() {
             return "the text says nothing: its first line is policy 1";
         }
-        if self.line_with("context").is_none() {
+        if self.line_above(Sought::Head("context")).is_none() {
             return "the policy has no line context: it needs one at least";
         }
-        if self.line_with("version").is_none() {
+        if self.line_above(Sought::Head("version")).is_none() {
             return "the policy has no line version: it needs one at least";
         }
         if is_session {

@@ -1,6 +1,7 @@
 //! A fault explained.
 
 use crate::cause::Cause;
+use crate::mistake::Mistake;
 use crate::scene::Scene;
 use flask_sid::Memory;
 use std::alloc::Global;
@@ -16,59 +17,48 @@ pub fn explain<'a>(
     is_session: bool,
 ) -> Result<Cause<'a>, Memory> {
     let scene = Scene::of(alloc, bytes, number)?;
-    let found = match kind {
-        FaultKind::Syntax => scene.syntax_cause(number)?,
-        FaultKind::Order => Some(scene.order_cause()?),
-        FaultKind::Limit => Some(scene.limit_cause(number)?),
-        FaultKind::Unknown => scene.unknown_cause()?,
-        FaultKind::Undeclared => scene.undeclared_cause()?,
-        FaultKind::Twice => Some(scene.twice_cause()?),
-        FaultKind::Ended => Some(scene.about(scene.lacked(is_session))?),
-    };
-    match found {
-        Some(cause) => Ok(cause),
+    let mistake = match scene.mistake(number, kind, is_session) {
+        Some(mistake) => mistake,
         None => scene.about(general(kind)),
-    }
+    };
+    scene.cause(&mistake)
 }
 
-// Each look at the line stands in a function of its own, since a proof of many early returns is long.
-impl<'a> Scene<'a> {
-    /// What is wrong with the words of a line.
-    fn syntax_cause(&self, number: u32) -> Result<Option<Cause<'a>>, Memory> {
-        match self.bytes_cause(number)? {
-            Some(cause) => Ok(Some(cause)),
-            None => self.text_cause(),
+impl Scene<'_> {
+    /// What is wrong with the line of a number, where more is known than the kind of fault.
+    fn mistake(&self, number: u32, kind: FaultKind, is_session: bool) -> Option<Mistake> {
+        match kind {
+            FaultKind::Syntax => self.syntax_mistake(number),
+            FaultKind::Order => Some(self.order_mistake()),
+            FaultKind::Limit => Some(self.limit_mistake(number)),
+            FaultKind::Unknown => self.unknown_mistake(),
+            FaultKind::Undeclared => self.undeclared_mistake(),
+            FaultKind::Twice => Some(self.twice_mistake()),
+            FaultKind::Ended => Some(self.about(self.lacked(is_session))),
         }
     }
 
-    /// What is wrong with a line whose bytes may stand in a line.
-    fn text_cause(&self) -> Result<Option<Cause<'a>>, Memory> {
-        match self.comment_cause()? {
-            Some(cause) => Ok(Some(cause)),
-            None => self.words_cause(),
+    /// What is wrong with the words of a line: its bytes are looked at first, then what shows that it was written for another reader.
+    fn syntax_mistake(&self, number: u32) -> Option<Mistake> {
+        if let Some(mistake) = self.bytes_mistake(number) {
+            return Some(mistake);
+        }
+        if let Some(mistake) = self.comment_mistake() {
+            return Some(mistake);
+        }
+        match self.selinux_mistake() {
+            Some(mistake) => Some(mistake),
+            None => self.form_mistake(),
         }
     }
 
-    /// What is wrong with a line that has no comment.
-    fn words_cause(&self) -> Result<Option<Cause<'a>>, Memory> {
-        match self.selinux_cause()? {
-            Some(cause) => Ok(Some(cause)),
-            None => self.form_cause(),
-        }
-    }
-
-    fn form_cause(&self) -> Result<Option<Cause<'a>>, Memory> {
-        match self.form {
-            None => Ok(Some(self.head_cause()?)),
-            Some(form) => self.parts_cause(form),
-        }
-    }
-
-    /// What is wrong with a line that has the first words of a form.
-    fn parts_cause(&self, form: &'static str) -> Result<Option<Cause<'a>>, Memory> {
-        match self.class_cause(form)? {
-            Some(cause) => Ok(Some(cause)),
-            None => self.misfit_cause(form),
+    fn form_mistake(&self) -> Option<Mistake> {
+        let Some(form) = self.form else {
+            return Some(self.head_mistake());
+        };
+        match self.class_mistake(form) {
+            Some(mistake) => Some(mistake),
+            None => self.misfit(form),
         }
     }
 }

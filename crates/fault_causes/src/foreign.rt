@@ -1,10 +1,10 @@
 //! Mistakes that a look at the bytes of a line shows, and words of other languages.
 
-use crate::cause::{Cause, Mark};
+use crate::mistake::Mistake;
+use crate::mistake::Piece::{Here, Name, Number, Other, Said};
 use crate::places::Place;
 use crate::scene::Scene;
-use crate::sentences::{digits, joined};
-use flask_sid::{Memory, context_form};
+use flask_sid::context_form;
 
 static WINDOWS: &'static str =
     "Windows line ends: a carriage return stands before the line end; a line ends by byte 10 alone";
@@ -37,85 +37,79 @@ static FOREIGN: [&str; 24] = [
     "type_transition",
 ];
 
-impl<'a> Scene<'a> {
+impl Scene<'_> {
     /// What the bytes of a line show: a byte that may not stand in any line.
-    pub(crate) fn bytes_cause(&self, number: u32) -> Result<Option<Cause<'a>>, Memory> {
+    pub(crate) fn bytes_mistake(&self, number: u32) -> Option<Mistake> {
         if number == 1 && self.line.starts_with(&[0xef, 0xbb, 0xbf]) {
-            return Ok(Some(self.at_byte(
+            return Some(self.at_bytes(
                 0,
                 3,
-                "a byte order mark stands before the text: save it without one",
-            )?));
+                &[Said("a byte order mark stands before the text: save it without one")],
+            ));
         }
         let last = self.line.len().saturating_sub(1);
         'bytes: for (at, b) in self.line.iter().enumerate() {
             if let Some(why) = byte_fault(*b, at == last) {
-                return Ok(Some(self.byte_cause(at, *b, why)?));
+                return Some(self.byte_mistake(at, *b, why));
             }
         }
-        Ok(None)
+        None
     }
 
-    fn at_byte(&self, from: usize, length: usize, what: &str) -> Result<Cause<'a>, Memory> {
-        let what = String::from_str(self.alloc, what)?;
-        Ok(Cause::new(what, Some(Mark { from, length })))
-    }
-
-    fn byte_cause(&self, at: usize, b: u8, why: &'static str) -> Result<Cause<'a>, Memory> {
+    fn byte_mistake(&self, at: usize, b: u8, why: &'static str) -> Mistake {
         if why == WINDOWS {
-            return self.at_byte(at, 1, why);
+            return self.at_bytes(at, 1, &[Name]).with_name(why);
         }
-        let byte = digits(self.alloc, u64::from(b))?;
-        let column = digits(self.alloc, at.saturating_add(1) as u64)?;
-        let parts = [
-            "the byte ",
-            byte.as_str(),
-            " in column ",
-            column.as_str(),
-            why,
-        ];
-        self.at_byte(at, 1, joined(self.alloc, &parts)?.as_str())
+        self.at_bytes(
+            at,
+            1,
+            &[Said("the byte "), Number, Said(" in column "), Other, Name],
+        )
+        .with_name(why)
+        .with_numbers(u64::from(b), at.saturating_add(1) as u64)
     }
 
     /// A comment behind words, or one that begins as elsewhere.
-    pub(crate) fn comment_cause(&self) -> Result<Option<Cause<'a>>, Memory> {
+    pub(crate) fn comment_mistake(&self) -> Option<Mistake> {
         let first = self.word(0);
         if first.starts_with("//") || first.starts_with("--") || first.starts_with("/*") {
-            return Ok(Some(self.told(0, &["a comment begins with #, and has a line of its own"])?));
+            return Some(self.told(
+                0,
+                &[Said("a comment begins with #, and has a line of its own")],
+            ));
         }
         'words: for at in 1..self.words.len() {
             if self.word(at).starts_with("#") {
-                return Ok(Some(self.told(
+                return Some(self.told(
                     at,
-                    &["a comment stands behind words: it has to have a line of its own"],
-                )?));
+                    &[Said("a comment stands behind words: it has to have a line of its own")],
+                ));
             }
         }
-        Ok(None)
+        None
     }
 
     /// SELinux's way to write, in the lines of a policy.
-    pub(crate) fn selinux_cause(&self) -> Result<Option<Cause<'a>>, Memory> {
+    pub(crate) fn selinux_mistake(&self) -> Option<Mistake> {
         if self.place != Place::Policy {
-            return Ok(None);
+            return None;
         }
-        let first = self.word(0);
-        if self.form.is_none() && FOREIGN.contains(&first) {
-            return Ok(Some(self.told(
+        if self.form.is_none() && FOREIGN.contains(&self.word(0)) {
+            return Some(self.told(
                 0,
                 &[
-                    "SELinux syntax: there is no line ",
-                    first,
-                    " here (docs/SELINUX.md says what stands for it)",
+                    Said("SELinux syntax: there is no line "),
+                    Here,
+                    Said(" here (docs/SELINUX.md says what stands for it)"),
                 ],
-            )?));
+            ));
         }
         'words: for at in 0..self.words.len() {
             if let Some(what) = self.mark_fault(at) {
-                return Ok(Some(self.told(at, &[what])?));
+                return Some(self.told(at, &[Name]).with_name(what));
             }
         }
-        Ok(None)
+        None
     }
 
     fn mark_fault(&self, at: usize) -> Option<&'static str> {

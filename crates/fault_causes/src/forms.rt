@@ -77,6 +77,16 @@ pub(crate) fn forms_in(place: Place) -> &'static [&'static str] {
     }
 }
 
+/// Whether a word begins a line of a place.
+pub(crate) fn begins_in(place: Place, first: &str) -> bool {
+    'forms: for form in forms_in(place) {
+        if part_at(*form, 0) == first {
+            return true;
+        }
+    }
+    false
+}
+
 /// The form of a line with these words, by the words of the form that stand as they are.
 pub(crate) fn form_of(place: Place, words: &[Span<'_>]) -> Option<&'static str> {
     'forms: for form in forms_in(place) {
@@ -128,7 +138,11 @@ pub(crate) fn part_for(form: &'static str, place: usize) -> &'static str {
 
 /// How many words a line of a form has at least.
 pub(crate) fn least_words(form: &str) -> usize {
-    form.split(' ')
-        .filter(|part| !part.starts_with("..") && !part.starts_with('['))
-        .count()
+    let mut count = 0usize;
+    'parts: for part in form.split(' ') {
+        if !part.starts_with("..") && !part.starts_with('[') {
+            count = count.saturating_add(1);
+        }
+    }
+    count
 }

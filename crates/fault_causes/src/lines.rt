@@ -2,40 +2,55 @@
 
 use flask_sid::Memory;
 use std::alloc::Global;
-use text_lines::Words;
+use text_lines::{Words, first_line};
 
 /// A word of a line.
-#[derive(Clone, Copy, Debug)]
+#[derive(Clone, Copy)]
 pub(crate) struct Span<'a> {
     pub(crate) text: &'a str,
     /// The column of its first byte, counted from 0.
     pub(crate) from: usize,
 }
 
-fn is_line_end(b: &u8) -> bool {
-    *b == b'\n'
+/// The lines of a text, one after another. What stands behind the last line end is a line where it is not empty.
+#[derive(Clone, Copy)]
+pub struct Lines<'a> {
+    rest: &'a [u8],
+}
+
+impl<'a> Lines<'a> {
+    /// The lines of a text from the first one on.
+    pub fn new(bytes: &'a [u8]) -> Lines<'a> {
+        Lines { rest: bytes }
+    }
+
+    /// The next line, or `None` behind the last one.
+    pub fn next(&mut self) -> Option<&'a [u8]> {
+        let (line, rest) = first_line(self.rest)?;
+        self.rest = rest;
+        Some(line)
+    }
 }
 
 /// The line of a number, counted from 1, or `None` where the text has no such line.
 pub fn line_at(bytes: &[u8], number: u32) -> Option<&[u8]> {
-    let above = (number as usize).saturating_sub(1);
-    if above >= line_count(bytes) {
-        return None;
+    let mut lines = Lines::new(bytes);
+    'above: for _ in 1..number {
+        lines.next()?;
     }
-    bytes.split(is_line_end).nth(above)
+    lines.next()
 }
 
-/// How many lines a text has. What stands behind the last line end is a line where it is not empty.
+/// How many lines a text has.
 pub fn line_count(bytes: &[u8]) -> usize {
-    let ends = bytes.iter().filter(|b| is_line_end(*b)).count();
-    match bytes.last() {
-        None => 0,
-        Some(last) => if *last == b'\n' {
-            ends
-        } else {
-            ends.saturating_add(1)
-        },
+    let mut lines = Lines::new(bytes);
+    let mut count = 0usize;
+    'lines: for _ in 0..bytes.len() {
+        if lines.next().is_some() {
+            count = count.saturating_add(1);
+        }
     }
+    count
 }
 
 /// The lines below one of these numbers and above the other, each with its own number.
@@ -45,15 +60,17 @@ pub(crate) fn lines_between<'a>(
     above: u32,
     below: u32,
 ) -> Result<Vec<(u32, &'a [u8])>, Memory> {
-    let mut lines = Vec::new(alloc);
-    let mut number = 0u32;
-    'lines: for line in bytes.split(is_line_end) {
-        number = number.saturating_add(1);
-        if above < number && number < below {
-            lines.push((number, line))?;
+    let mut found = Vec::new(alloc);
+    let mut lines = Lines::new(bytes);
+    'lines: for number in 1..below {
+        let Some(line) = lines.next() else {
+            break 'lines;
+        };
+        if above < number {
+            found.push((number, line))?;
         }
     }
-    Ok(lines)
+    Ok(found)
 }
 
 /// The words of a line, where they stand.

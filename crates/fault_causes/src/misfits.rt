@@ -1,96 +1,104 @@
 //! Words that have not the form of their part, words that are missing and words too many.
 
-use crate::cause::Cause;
 use crate::forms::{least_words, part_at, part_for};
+use crate::mistake::Piece::{Here, Name, Said};
+use crate::mistake::{Known, Mistake};
 use crate::parts::{Part, Shape, has_form, part_named};
 use crate::scene::Scene;
-use flask_sid::Memory;
 
-impl<'a> Scene<'a> {
+impl Scene<'_> {
     /// What is wrong with the form of a line whose first words are known.
-    pub(crate) fn misfit_cause(&self, form: &'static str) -> Result<Option<Cause<'a>>, Memory> {
+    pub(crate) fn misfit(&self, form: &'static str) -> Option<Mistake> {
         'words: for at in 0..self.words.len() {
             let part = part_for(form, at);
             if part.is_empty() {
-                return Ok(Some(self.extra(form, at)?));
+                return Some(self.extra(form, at));
             }
             if !self.fits(at, part) {
-                return Ok(Some(self.wrong(at, part)?));
+                return Some(self.wrong(at, part));
             }
         }
         if self.words.len() < least_words(form) {
-            return Ok(Some(self.missing(form)?));
+            return Some(self.missing(form));
         }
-        Ok(None)
+        None
     }
 
     /// Whether the word at a place has the form of a part. A part of small letters stands as it is.
     fn fits(&self, at: usize, part: &str) -> bool {
         let word = self.word(at);
-        if part == "PERM" && word == "*" {
-            return self.words.len() == 5;
+        match (part, word) {
+            ("PERM", "*") => self.words.len() == 5,
+            ("PATH", "/") => !self.wants_entry(),
+            ("CLIENT", "admin") => false,
+            _ => part == word || has_form(part, word),
         }
-        if part == "PATH" && word == "/" {
-            return !self.wants_entry();
-        }
-        if part == "CLIENT" && word == "admin" {
-            return false;
-        }
-        part == word || has_form(part, word)
     }
 
     /// Whether the line makes or takes away an entry, so that its path cannot be that of the root.
     fn wants_entry(&self) -> bool {
-        let call = self.word(2);
-        self.word(1) == "file" && (call == "mkdir" || call == "create" || call == "unlink")
+        match (self.word(1), self.word(2)) {
+            ("file", "mkdir" | "create" | "unlink") => true,
+            _ => false,
+        }
     }
 
-    fn wrong(&self, at: usize, part: &'static str) -> Result<Cause<'a>, Memory> {
+    fn wrong(&self, at: usize, part: &'static str) -> Mistake {
         if let Some(what) = misused(part, self.word(at)) {
-            return self.told(at, &[what]);
+            return self.told(at, &[Name]).with_name(what);
         }
         if part.contains('|') {
-            return self.of_word(at, "'", "' is none of ", part);
+            return self
+                .told(at, &[Said("'"), Here, Said("' is none of "), Name])
+                .with_name(part);
         }
-        self.unfit(at, part_named(part))
+        let Part { shape, what, .. } = part_named(part);
+        if is_of_names(shape) {
+            self.no_name(at, what).with_known(Known::Part(shape))
+        } else {
+            self.is_not(at, what)
+        }
     }
 
-    fn unfit(&self, at: usize, part: Part) -> Result<Cause<'a>, Memory> {
-        if !is_of_names(part.shape) {
-            return self.of_word(at, "'", "' is not ", part.what);
+    fn no_name(&self, at: usize, what: &'static str) -> Mistake {
+        if !has_capital(self.word(at)) {
+            return self.is_not(at, what);
         }
-        let near = self.near(at, part.shape)?;
-        Ok(self.no_form_of_name(at, part.what)?.with_nearest(near))
+        self.told(
+            at,
+            &[
+                Said("'"),
+                Here,
+                Said("' has a capital letter: names have small letters alone"),
+            ],
+        )
     }
 
-    fn no_form_of_name(&self, at: usize, what: &str) -> Result<Cause<'a>, Memory> {
-        if has_capital(self.word(at)) {
-            return self.of_word(
-                at,
-                "'",
-                "' has a capital letter: ",
-                "names have small letters alone",
-            );
-        }
-        self.of_word(at, "'", "' is not ", what)
+    fn is_not(&self, at: usize, what: &'static str) -> Mistake {
+        self.told(at, &[Said("'"), Here, Said("' is not "), Name])
+            .with_name(what)
     }
 
-    fn missing(&self, form: &'static str) -> Result<Cause<'a>, Memory> {
+    fn missing(&self, form: &'static str) -> Mistake {
         let at = self.words.len();
         let part = part_at(form, at);
         if part.contains('|') {
-            return self.told(at, &["a word is missing: one of ", part]);
+            return self
+                .told(at, &[Said("a word is missing: one of "), Name])
+                .with_name(part);
         }
-        self.told(at, &["a word is missing: ", part_named(part).what])
+        self.told(at, &[Said("a word is missing: "), Name])
+            .with_name(part_named(part).what)
     }
 
-    fn extra(&self, form: &str, at: usize) -> Result<Cause<'a>, Memory> {
+    fn extra(&self, form: &str, at: usize) -> Mistake {
         let why = if form.ends_with("DATA") || form.ends_with("[DATA]") {
             ": a datum is one word"
         } else {
             ""
         };
-        self.told(at, &["a word too many: '", self.word(at), "'", why])
+        self.told(at, &[Said("a word too many: '"), Here, Said("'"), Name])
+            .with_name(why)
     }
 }
 
@@ -147,5 +155,10 @@ fn is_of_names(shape: Shape) -> bool {
 }
 
 fn has_capital(word: &str) -> bool {
-    word.as_bytes().iter().any(|b| b.is_ascii_uppercase())
+    'bytes: for b in word.as_bytes() {
+        if b.is_ascii_uppercase() {
+            return true;
+        }
+    }
+    false
 }

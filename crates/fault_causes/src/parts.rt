@@ -5,7 +5,7 @@ use session_forms::path_form;
 use text_lines::numeral;
 
 /// What words a part takes.
-#[derive(Clone, Copy, Debug, PartialEq, Eq)]
+#[derive(Clone, Copy)]
 pub(crate) enum Shape {
     /// A name that the line declares or speaks of.
     Name,
@@ -28,7 +28,7 @@ pub(crate) enum Shape {
 }
 
 /// A part of forms.
-#[derive(Clone, Copy, Debug)]
+#[derive(Clone, Copy)]
 pub(crate) struct Part {
     name: &'static str,
     pub(crate) shape: Shape,
@@ -202,7 +202,12 @@ pub(crate) fn has_form(name: &str, text: &str) -> bool {
 
 /// Whether a word is one of those between the bars.
 fn is_choice(name: &str, word: &str) -> bool {
-    name.split('|').any(|choice| choice == word)
+    'choices: for choice in name.split('|') {
+        if choice == word {
+            return true;
+        }
+    }
+    false
 }
 
 /// Whether a word that has the form of the part of a name is within its limits.

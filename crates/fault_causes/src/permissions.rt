@@ -1,6 +1,6 @@
 //! The names of classes and permissions, and what is said of words that are none.
 
-use crate::sentences::{joined, listed, put_all};
+use crate::sentences::{put_all, put_listed};
 use access_vectors::{Class, Perm, class_name, perm_name, perm_of};
 use flask_sid::Memory;
 use std::alloc::Global;
@@ -11,18 +11,27 @@ pub static CLASSES: [&str; 5] = ["file", "dir", "process", "port", "security"];
 /// The names of the permissions of a class, in their order.
 pub fn permission_names(alloc: Global, class: Class) -> Result<Vec<&'static str>, Memory> {
     let mut names = Vec::new(alloc);
+    put_permission_names(class, &mut names)?;
+    Ok(names)
+}
+
+/// Puts the names of the permissions of a class behind others.
+pub(crate) fn put_permission_names<'a>(
+    class: Class,
+    names: &mut Vec<&'a str>,
+) -> Result<(), Memory> {
     'indexes: for index in 0..class.perm_count() {
         if let Some(perm) = Perm::of(class, index) {
             names.push(perm_name(perm))?;
         }
     }
-    Ok(names)
+    Ok(())
 }
 
-/// What is said of a word that is no class.
-pub fn no_class(alloc: Global, word: &str) -> Result<String, Memory> {
-    joined(
-        alloc,
+/// Puts what is said of a word that is no class.
+pub fn put_no_class(out: &mut String, word: &str) -> Result<(), Memory> {
+    put_all(
+        out,
         &[
             "there is no class '",
             word,
@@ -31,21 +40,23 @@ pub fn no_class(alloc: Global, word: &str) -> Result<String, Memory> {
     )
 }
 
-/// What is said of a word that is no permission of a class: which ones it has, and another class that has this one.
-pub fn no_permission(alloc: Global, class: Class, word: &str) -> Result<String, Memory> {
-    let mut text = joined(
-        alloc,
+/// Puts what is said of a word that is no permission of a class: which ones it has, and another class that has this one.
+pub fn put_no_permission(
+    out: &mut String,
+    alloc: Global,
+    class: Class,
+    word: &str,
+) -> Result<(), Memory> {
+    put_all(
+        out,
         &["the class ", class_name(class), " has no permission '"],
     )?;
-    put_all(&mut text, &[word, "'"])?;
+    put_all(out, &[word, "'"])?;
     if let Some(other) = class_with(word) {
-        put_all(&mut text, &[", but ", class_name(other), " has"])?;
+        put_all(out, &[", but ", class_name(other), " has"])?;
     }
-    let names = permission_names(alloc, class)?;
-    let all = listed(alloc, names.as_slice())?;
-    put_all(&mut text, &["; ", class_name(class)])?;
-    put_all(&mut text, &[" has ", all.as_str()])?;
-    Ok(text)
+    put_all(out, &["; ", class_name(class), " has "])?;
+    put_listed(out, permission_names(alloc, class)?.as_slice())
 }
 
 /// The first class that has a permission of this name.

@@ -4,7 +4,7 @@ use crate::lines::word_at;
 
 /// The part of a text in which a line stands: the policy, down to the line `session`; what is there at the start, down to the line
 /// `run`; or the lines that run.
-#[derive(Clone, Copy, Debug, PartialEq, Eq)]
+#[derive(Clone, Copy, PartialEq, Eq)]
 pub(crate) enum Place {
     Policy,
     Setup,

@@ -1,111 +1,90 @@
 //! What a word is known as, where it stands in another word's place.
 
-use crate::cause::Cause;
+use crate::declared::{Sought, is_user};
 use crate::forms::part_at;
+use crate::mistake::Mistake;
+use crate::mistake::Piece::{Here, Name, Said, Word};
 use crate::permissions::class_with;
 use crate::scene::Scene;
-use crate::sentences::{digits, joined};
 use access_vectors::class_of;
-use flask_sid::Memory;
 
-impl<'a> Scene<'a> {
+impl Scene<'_> {
     /// What a word is that is not of the kind that is wanted.
-    pub(crate) fn role_of(&self, word: &str) -> Result<Option<&'static str>, Memory> {
+    pub(crate) fn role_of(&self, word: &str) -> Option<&'static str> {
         if class_of(word.as_bytes()).is_some() {
-            return Ok(Some("a class"));
+            return Some("a class");
         }
-        if self
-            .types()?
-            .as_slice()
-            .iter()
-            .any(|kind| kind.name == word)
-        {
-            return Ok(Some("a type"));
+        if self.line_of_type(word).is_some() {
+            return Some("a type");
         }
-        if self.is_declared("attribute", word)? {
-            return Ok(Some("an attribute"));
+        if self.is_declared("attribute", word) {
+            return Some("an attribute");
         }
-        if self.is_declared("client", word)? {
-            return Ok(Some("a client"));
+        if self.is_declared("client", word) {
+            return Some("a client");
         }
         self.other_role_of(word)
     }
 
-    fn other_role_of(&self, word: &str) -> Result<Option<&'static str>, Memory> {
-        let contexts = self.declared("context", 1)?;
-        'contexts: for context in contexts.as_slice() {
-            if context.name.split(':').nth(0) == Some(word) {
-                return Ok(Some("the user of a context, and rules speak of types"));
-            }
-            if context.name.split(':').nth(1) == Some(word) {
-                return Ok(Some("the role of a context, and rules speak of types"));
-            }
-        }
-        Ok(class_with(word).map(|_| "a permission"))
-    }
-
-    /// What is known of a word that is not declared above, behind a colon: what it is, or which line below declares it.
-    pub(crate) fn aside(&self, word: &str) -> Result<String, Memory> {
-        if let Some(role) = self.role_of(word)? {
-            return joined(self.alloc, &[": it is ", role]);
-        }
-        match self.declared_below(word) {
-            None => Ok(String::new(self.alloc)),
-            Some(line) => {
-                let line = digits(self.alloc, u64::from(line))?;
-                joined(
-                    self.alloc,
-                    &[": line ", line.as_str(), ", below, declares it"],
-                )
-            }
+    fn other_role_of(&self, word: &str) -> Option<&'static str> {
+        match self.context(Sought::Owner(word)) {
+            None => match class_with(word) {
+                None => None,
+                Some(_) => Some("a permission"),
+            },
+            Some(context) => Some(if is_user(context, word) {
+                "the user of a context, and rules speak of types"
+            } else {
+                "the role of a context, and rules speak of types"
+            }),
         }
     }
 
     /// What is wrong with a rule line that has something else where its class belongs, or its class too early.
-    pub(crate) fn class_cause(&self, form: &'static str) -> Result<Option<Cause<'a>>, Memory> {
+    pub(crate) fn class_mistake(&self, form: &'static str) -> Option<Mistake> {
         if part_at(form, 3) != "CLASS" || self.words.len() < 4 {
-            return Ok(None);
+            return None;
         }
         'places: for at in 1..3 {
-            if class_of(self.word(at).as_bytes()).is_some() && !self.is_who(self.word(at))? {
-                return Ok(Some(self.early_class(at, part_at(form, at))?));
+            if self.is_class(at) && self.line_of_who(self.word(at)).is_none() {
+                return Some(self.early_class(at, part_at(form, at)));
             }
         }
-        if class_of(self.word(3).as_bytes()).is_some() || self.role_of(self.word(3))?.is_none() {
-            return Ok(None);
+        if self.is_class(3) || self.role_of(self.word(3)).is_none() {
+            return None;
         }
-        Ok(Some(self.forgotten_class()?))
+        Some(self.forgotten_class())
     }
 
-    fn is_who(&self, word: &str) -> Result<bool, Memory> {
-        let known = self.types_and_attributes()?;
-        Ok(known.as_slice().iter().any(|one| one.name == word))
+    fn is_class(&self, at: usize) -> bool {
+        class_of(self.word(at).as_bytes()).is_some()
     }
 
-    fn early_class(&self, at: usize, part: &str) -> Result<Cause<'a>, Memory> {
+    fn early_class(&self, at: usize, part: &'static str) -> Mistake {
         self.told(
             at,
             &[
-                "'",
-                self.word(at),
-                "' is a class, and stands where ",
-                part,
-                " belongs: source, target and class follow one another",
+                Said("'"),
+                Here,
+                Said("' is a class, and stands where "),
+                Name,
+                Said(" belongs: source, target and class follow one another"),
             ],
         )
+        .with_name(part)
     }
 
-    fn forgotten_class(&self) -> Result<Cause<'a>, Memory> {
+    fn forgotten_class(&self) -> Mistake {
         self.told(
             3,
             &[
-                "S is ",
-                self.word(1),
-                ", T is ",
-                self.word(2),
-                ", and '",
-                self.word(3),
-                "' stands where CLASS belongs: file, dir, process, port or security",
+                Said("S is "),
+                Word(1),
+                Said(", T is "),
+                Word(2),
+                Said(", and '"),
+                Here,
+                Said("' stands where CLASS belongs: file, dir, process, port or security"),
             ],
         )
     }

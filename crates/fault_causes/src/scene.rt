@@ -1,10 +1,10 @@
 //! A faulty line with all that is looked at to explain it.
 
-use crate::cause::{Cause, Mark};
+use crate::cause::Mark;
 use crate::forms::form_of;
 use crate::lines::{Span, line_at, lines_between, spans};
+use crate::mistake::{Known, Mistake, Piece, Spot};
 use crate::places::{Place, place_below};
-use crate::sentences::joined;
 use flask_sid::Memory;
 use std::alloc::Global;
 
@@ -48,34 +48,30 @@ impl<'a> Scene<'a> {
         }
     }
 
-    /// A cause at the word of a place: behind the line where it has no such word.
-    pub(crate) fn at(&self, at: usize, what: String) -> Cause<'a> {
-        let (from, length) = match self.words.get(at) {
-            None => (self.line.len(), 1),
-            Some(word) => (word.from, word.text.len()),
-        };
-        Cause::new(what, Some(Mark { from, length })).with_form(self.form)
+    /// A mistake at the word of a place.
+    pub(crate) fn told(&self, at: usize, what: &'static [Piece]) -> Mistake {
+        Mistake {
+            what,
+            spot: Spot::Word(at),
+            form: self.form,
+            name: "",
+            numbers: (0, 0),
+            known: Known::Nothing,
+        }
     }
 
-    /// The same, of what these parts say.
-    pub(crate) fn told(&self, at: usize, parts: &[&str]) -> Result<Cause<'a>, Memory> {
-        Ok(self.at(at, joined(self.alloc, parts)?))
+    /// A mistake of the whole line.
+    pub(crate) fn about(&self, what: &'static str) -> Mistake {
+        let mut mistake = self.told(0, &[Piece::Name]).with_name(what);
+        mistake.spot = Spot::Line;
+        mistake
     }
 
-    /// A cause that says its word between two parts, and something behind them.
-    pub(crate) fn of_word(
-        &self,
-        at: usize,
-        before: &str,
-        behind: &str,
-        end: &str,
-    ) -> Result<Cause<'a>, Memory> {
-        self.told(at, &[before, self.word(at), behind, end])
-    }
-
-    /// A cause about the whole line.
-    pub(crate) fn about(&self, what: &str) -> Result<Cause<'a>, Memory> {
-        let what = String::from_str(self.alloc, what)?;
-        Ok(Cause::new(what, None).with_form(self.form))
+    /// A mistake at some bytes, for which the form of the line does not matter.
+    pub(crate) fn at_bytes(&self, from: usize, length: usize, what: &'static [Piece]) -> Mistake {
+        let mut mistake = self.told(0, what);
+        mistake.spot = Spot::Bytes(Mark { from, length });
+        mistake.form = None;
+        mistake
     }
 }

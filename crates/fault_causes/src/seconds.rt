@@ -1,82 +1,52 @@
 //! Second declarations.
 
-use crate::cause::Cause;
-use crate::declared::{Declared, line_of};
-use crate::lines::word_at;
+use crate::declared::Sought;
+use crate::mistake::Mistake;
+use crate::mistake::Piece::{Here, Number, Said};
 use crate::scene::Scene;
-use crate::sentences::digits;
-use flask_sid::Memory;
 
-impl<'a> Scene<'a> {
+impl Scene<'_> {
     /// Where what a line declares was declared before.
-    pub(crate) fn twice_cause(&self) -> Result<Cause<'a>, Memory> {
-        let (first, second) = (self.word(0), self.word(1));
-        if first == "client" && second == "admin" {
-            return self.told(1, &["admin is the administrator, and no client's name"]);
+    pub(crate) fn twice_mistake(&self) -> Mistake {
+        match (self.word(0), self.word(1)) {
+            ("client", "admin") => self.told(
+                1,
+                &[Said("admin is the administrator, and no client's name")],
+            ),
+            (_, "/") => self.told(1, &[Said("the root is there without a line of its own")]),
+            ("audit", _) => self.second(0, self.line_above(Sought::Head("audit"))),
+            (first, second) => self.second(1, self.line_before(first, second)),
         }
-        if second == "/" {
-            return self.told(1, &["the root is there without a line of its own"]);
-        }
-        if first == "audit" {
-            return self.second(0, self.line_with("audit"));
-        }
-        let declared = self.declared_like(first)?;
-        self.second(1, line_of(declared.as_slice(), second))
     }
 
-    /// What the lines above declare that a line with this first word may not declare once more.
-    fn declared_like(&self, first: &str) -> Result<Vec<Declared<'a>>, Memory> {
-        if first == "type" || first == "attribute" {
-            return self.types_and_attributes();
+    /// The line above that declares what a line with these words may not declare once more.
+    fn line_before(&self, first: &str, second: &str) -> Option<u32> {
+        match first {
+            "type" | "attribute" => self.line_of_who(second),
+            "dir" | "file" => match self.line_above(Sought::Declared("dir", second)) {
+                Some(line) => Some(line),
+                None => self.line_above(Sought::Declared("file", second)),
+            },
+            "port" => self.line_above(Sought::Port(second)),
+            _ => self.line_above(Sought::Declared(first, second)),
         }
-        if first == "dir" || first == "file" {
-            let mut found = self.declared("dir", 1)?;
-            let files = self.declared("file", 1)?;
-            'files: for file in files.as_slice() {
-                found.push(*file)?;
-            }
-            return Ok(found);
-        }
-        if first == "port" {
-            return self.ports();
-        }
-        self.declared(first, 1)
     }
 
-    /// The ports above with the number of the line, however it is written, under the words of the line.
-    fn ports(&self) -> Result<Vec<Declared<'a>>, Memory> {
-        let mut found = Vec::new(self.alloc);
-        let name = self.word(1);
-        'lines: for (line, text) in self.above.as_slice() {
-            if word_at(*text, 0) == "port"
-                && without_zeros(word_at(*text, 1)) == without_zeros(name)
-            {
-                found.push(Declared { line: *line, name })?;
-            }
+    fn second(&self, at: usize, line: Option<u32>) -> Mistake {
+        match line {
+            None => self.told(at, &[Said("'"), Here, Said("' is declared a second time")]),
+            Some(line) => self
+                .told(
+                    at,
+                    &[
+                        Said("'"),
+                        Here,
+                        Said("' is declared in line "),
+                        Number,
+                        Said(" already"),
+                    ],
+                )
+                .with_line(line),
         }
-        Ok(found)
     }
-
-    fn second(&self, at: usize, line: Option<u32>) -> Result<Cause<'a>, Memory> {
-        let word = self.word(at);
-        let Some(line) = line else {
-            return self.told(at, &["'", word, "' is declared a second time"]);
-        };
-        let line = digits(self.alloc, u64::from(line))?;
-        self.told(
-            at,
-            &[
-                "'",
-                word,
-                "' is declared in line ",
-                line.as_str(),
-                " already",
-            ],
-        )
-    }
-}
-
-/// The digits of a number without the zeros at its front.
-fn without_zeros(digits: &str) -> &str {
-    digits.trim_start_matches('0')
 }

@@ -26,26 +26,22 @@ pub fn joined(alloc: Global, parts: &[&str]) -> Result<String, Memory> {
     Ok(text)
 }
 
-/// The digits of a number.
-pub fn digits(alloc: Global, number: u64) -> Result<String, Memory> {
-    let mut text = String::new(alloc);
-    put_number(&mut text, number)?;
-    Ok(text)
+/// Puts names in a sentence: between two of them a comma, and `and` before the last.
+pub fn put_listed(out: &mut String, names: &[&str]) -> Result<(), Memory> {
+    'names: for (at, name) in names.iter().enumerate() {
+        put_all(out, &[gap_before(at, names.len())])?;
+        put_all(out, &[*name])?;
+    }
+    Ok(())
 }
 
-/// Names in a sentence: between two of them a comma, and `and` before the last.
-pub fn listed(alloc: Global, names: &[&str]) -> Result<String, Memory> {
-    let mut text = String::new(alloc);
-    let last = names.len().saturating_sub(1);
-    'names: for (at, name) in names.iter().enumerate() {
-        let gap = if at == 0 {
-            ""
-        } else if at == last {
-            " and "
-        } else {
-            ", "
-        };
-        put_all(&mut text, &[gap, *name])?;
+/// What stands before the name at a place of so many.
+pub fn gap_before(at: usize, count: usize) -> &'static str {
+    if at == 0 {
+        ""
+    } else if at.saturating_add(1) == count {
+        " and "
+    } else {
+        ", "
     }
-    Ok(text)
 }

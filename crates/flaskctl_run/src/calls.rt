@@ -1,6 +1,7 @@
 //! The lines of a session that can be asked for: its clients' calls.
 
-use fault_causes::{digits, joined, line_count, listed, put_all};
+use crate::values::{Value, put_line, sentence};
+use fault_causes::{gap_before, line_count, put_all};
 use flask_sid::Memory;
 use session_questions::LineRun;
 use std::alloc::Global;
@@ -15,66 +16,70 @@ pub(crate) fn no_call(
     runs: &[LineRun],
     number: u32,
 ) -> Result<String, Memory> {
-    let line = digits(alloc, u64::from(number))?;
     let count = line_count(bytes);
     let mut text = if number as usize > count {
-        let count = digits(alloc, count as u64)?;
-        joined(
+        sentence(
             alloc,
             &[
-                "there is no line ",
-                line.as_str(),
-                ": the text has ",
-                count.as_str(),
+                Value::Text("there is no line "),
+                Value::Number(u64::from(number)),
+                Value::Text(": the text has "),
+                Value::Number(count as u64),
             ],
         )?
     } else {
-        joined(
+        sentence(
             alloc,
             &[
-                "line ",
-                line.as_str(),
-                " is no client's call: it asks nothing",
+                Value::Text("line "),
+                Value::Number(u64::from(number)),
+                Value::Text(" is no client's call: it asks nothing"),
             ],
         )?
     };
-    let calls = calls_of(alloc, runs)?;
-    put_calls(alloc, calls.as_slice(), &mut text)?;
+    put_calls_of(alloc, runs, &mut text)?;
     Ok(text)
 }
 
-/// The numbers of the lines that are clients' calls.
-fn calls_of(alloc: Global, runs: &[LineRun]) -> Result<Vec<String>, Memory> {
+/// Puts which lines are clients' calls.
+fn put_calls_of(alloc: Global, runs: &[LineRun], text: &mut String) -> Result<(), Memory> {
     let mut calls = Vec::new(alloc);
     'runs: for run in runs {
         if run.questions.is_some() {
-            calls.push(digits(alloc, u64::from(run.line))?)?;
+            calls.push(run.line)?;
         }
     }
-    Ok(calls)
+    put_calls(calls.as_slice(), text)
 }
 
 /// Puts which lines are calls: each where they are few, and else the first and the last.
-fn put_calls(alloc: Global, calls: &[String], text: &mut String) -> Result<(), Memory> {
+fn put_calls(calls: &[u32], text: &mut String) -> Result<(), Memory> {
     let (Some(first), Some(last)) = (calls.first(), calls.last()) else {
         return put_all(text, &["; no line is a client's call"]);
     };
-    if calls.len() > NAMED {
-        let count = digits(alloc, calls.len() as u64)?;
-        put_all(
-            text,
-            &[
-                "; ",
-                count.as_str(),
-                " lines are clients' calls, from line ",
-            ],
-        )?;
-        return put_all(text, &[first.as_str(), " to line ", last.as_str()]);
+    if calls.len() <= NAMED {
+        return put_each(calls, text);
     }
-    let mut names = Vec::new(alloc);
+    put_line(
+        text,
+        &[
+            Value::Text("; "),
+            Value::Number(calls.len() as u64),
+            Value::Text(" lines are clients' calls, from line "),
+            Value::Number(u64::from(*first)),
+            Value::Text(" to line "),
+            Value::Number(u64::from(*last)),
+        ],
+    )
+}
+
+fn put_each(calls: &[u32], text: &mut String) -> Result<(), Memory> {
+    put_all(text, &["; clients' calls stand in lines "])?;
+    let mut at = 0usize;
     'calls: for call in calls {
-        names.push(call.as_str())?;
+        let gap = gap_before(at, calls.len());
+        put_line(text, &[Value::Text(gap), Value::Number(u64::from(*call))])?;
+        at = at.saturating_add(1);
     }
-    let all = listed(alloc, names.as_slice())?;
-    put_all(text, &["; clients' calls stand in lines ", all.as_str()])
+    Ok(())
 }

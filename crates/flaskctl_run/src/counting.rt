@@ -1,70 +1,40 @@
 //! How many of what a text has, and how many there may be.
 
-use crate::json::{Value, put_object};
-use crate::report::Listed;
+use crate::json::put_object;
+use crate::report::{Form, Report};
 use crate::text::Text;
-use fault_causes::{put_all, put_number};
+use crate::values::{Value, put_line};
 use flask_sid::Memory;
 use policy_model::PolicyParts;
 use session_text::SessionParts;
-use std::alloc::Global;
 
 /// How many of something a text has, and how many it may have.
-#[derive(Drop)]
-pub(crate) struct Count {
-    pub(crate) what: &'static str,
-    pub(crate) count: usize,
-    pub(crate) limit: usize,
-}
+type Count = (&'static str, usize, usize);
 
-impl Listed for Count {
-    fn put_lines(&self, out: &mut String) -> Result<(), Memory> {
-        put_all(out, &[self.what, " "])?;
-        put_number(out, self.count as u64)?;
-        put_all(out, &[" of "])?;
-        put_number(out, self.limit as u64)
-    }
-
-    fn put_json(&self, out: &mut String) -> Result<(), Memory> {
-        put_object(
-            out,
-            &[
-                ("what", Value::Text(self.what)),
-                ("count", Value::Number(self.count as u64)),
-                ("limit", Value::Number(self.limit as u64)),
-            ],
-        )
+/// Puts what a text has.
+pub(crate) fn put_counts(text: &Text, lines: usize, out: &mut Report) -> Result<(), Memory> {
+    put_each(&[("lines", lines, 100_000)], out)?;
+    put_each(&policy_counts(text.policy().parts()), out)?;
+    match text {
+        Text::Policy(_) => Ok(()),
+        Text::Session(session) => put_each(&session_counts(session.parts()), out),
     }
 }
 
-fn count_of(what: &'static str, count: usize, limit: usize) -> Count {
-    Count { what, count, limit }
-}
-
-/// What a text has.
-pub(crate) fn counts_of(alloc: Global, text: &Text, lines: usize) -> Result<Vec<Count>, Memory> {
-    let mut counts = Vec::new(alloc);
-    counts.push(count_of("lines", lines, 100_000))?;
-    put_policy_counts(text.policy().parts(), &mut counts)?;
-    if let Text::Session(session) = text {
-        put_session_counts(session.parts(), &mut counts)?;
-    }
-    Ok(counts)
-}
-
-fn put_policy_counts(policy: &PolicyParts, counts: &mut Vec<Count>) -> Result<(), Memory> {
+fn policy_counts(policy: &PolicyParts) -> [Count; 6] {
     let listed = policy
         .nevers
         .len()
         .saturating_add(policy.silent.len())
         .saturating_add(policy.loud.len());
-    counts.push(count_of("contexts", policy.contexts.len(), 4095))?;
-    counts.push(count_of("types", policy.kinds.len(), 128))?;
-    counts.push(count_of("attributes", policy.attributes.len(), 64))?;
-    counts.push(count_of("neverallow, dontaudit and auditallow", listed, 1024))?;
-    counts.push(count_of("versions", policy.versions.len(), 64))?;
-    counts.push(count_of("rule lines of a version", most_rules(policy), 1024))?;
-    Ok(())
+    [
+        ("contexts", policy.contexts.len(), 4095),
+        ("types", policy.kinds.len(), 128),
+        ("attributes", policy.attributes.len(), 64),
+        ("neverallow, dontaudit and auditallow", listed, 1024),
+        ("versions", policy.versions.len(), 64),
+        ("rule lines of a version", most_rules(policy), 1024),
+    ]
 }
 
 /// How many rule lines the version has that has most of them.
@@ -76,10 +46,46 @@ fn most_rules(policy: &PolicyParts) -> usize {
     most
 }
 
-fn put_session_counts(session: &SessionParts, counts: &mut Vec<Count>) -> Result<(), Memory> {
-    counts.push(count_of("files and directories", session.nodes.len(), 4095))?;
-    counts.push(count_of("ports with labels", session.ports.len(), 1024))?;
-    counts.push(count_of("clients", session.clients.len(), 62))?;
-    counts.push(count_of("lines that run", session.lines.len(), 100_000))?;
+fn session_counts(session: &SessionParts) -> [Count; 4] {
+    [
+        ("files and directories", session.nodes.len(), 4095),
+        ("ports with labels", session.ports.len(), 1024),
+        ("clients", session.clients.len(), 62),
+        ("lines that run", session.lines.len(), 100_000),
+    ]
+}
+
+fn put_each(counts: &[Count], out: &mut Report) -> Result<(), Memory> {
+    'counts: for count in counts {
+        put_count(*count, out)?;
+    }
     Ok(())
+}
+
+/// Puts a count. In lines all counts stand in one.
+fn put_count(count: Count, out: &mut Report) -> Result<(), Memory> {
+    let head = if out.is_begun { "" } else { "well formed: " };
+    let (what, has, most) = (
+        Value::Text(count.0),
+        Value::Number(count.1 as u64),
+        Value::Number(count.2 as u64),
+    );
+    out.part(", ")?;
+    match out.form {
+        Form::Lines => put_line(
+            &mut out.text,
+            &[
+                Value::Text(head),
+                what,
+                Value::Text(" "),
+                has,
+                Value::Text(" of "),
+                most,
+            ],
+        ),
+        Form::Json => put_object(
+            &mut out.text,
+            &[("what", what), ("count", has), ("limit", most)],
+        ),
+    }
 }

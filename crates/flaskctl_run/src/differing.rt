@@ -1,140 +1,140 @@
 //! `diff`: which permissions two versions give differently, and which types to new objects and as members, and by which lines.
 
-use crate::asking::put_by;
-use crate::json::{Value, put_object};
 use crate::known::version_of;
-use crate::report::{Form, Listed, Report, report_of};
-use crate::source::Source;
+use crate::report::Report;
+use crate::source::{Source, read_or_explain};
 use crate::stop::Stop;
-use access_vectors::{class_name, perm_name};
+use crate::values::Value;
+use access_vectors::{Class, class_name, perm_name};
 use audit_allow::type_name;
 use control_words::DiffWords;
-use fault_causes::{put_all, text_of};
+use fault_causes::text_of;
 use flask_sid::Memory;
 use policy_answers::{Change, Relabel, changes, relabels};
 use policy_model::Labelling;
 use std::alloc::Global;
 
-/// What two versions decide differently: a permission that is gained or lost, or the type of a new object or of a member.
-#[derive(Drop)]
-struct Differing<'t> {
+/// What two versions decide differently between the types at two places: a permission that is gained or lost, or the type of a new
+/// object or of a member.
+#[derive(Clone, Copy)]
+struct Differing {
     what: &'static str,
-    source: &'t str,
-    target: &'t str,
-    class: &'static str,
+    s: u8,
+    t: u8,
+    class: Class,
     permission: Option<&'static str>,
-    line_before: Option<u32>,
-    text_before: Option<&'t str>,
-    line_after: Option<u32>,
-    text_after: Option<&'t str>,
+    before: Option<u32>,
+    after: Option<u32>,
 }
 
-impl<'t> Differing<'t> {
-    fn of_change(source: Source<'t>, change: &Change) -> Differing<'t> {
-        let parts = source.policy.parts();
+impl Differing {
+    fn of_change(change: &Change) -> Differing {
         let perm = change.before.perm;
         Differing {
             what: if change.after.yes { "gained" } else { "lost" },
-            source: text_of(type_name(parts, change.s)),
-            target: text_of(type_name(parts, change.t)),
-            class: class_name(perm.class()),
+            s: change.s,
+            t: change.t,
+            class: perm.class(),
             permission: Some(perm_name(perm)),
-            line_before: change.before.line,
-            text_before: source.line(change.before.line),
-            line_after: change.after.line,
-            text_after: source.line(change.after.line),
+            before: change.before.line,
+            after: change.after.line,
         }
     }
 
-    fn of_relabel(source: Source<'t>, relabel: &Relabel) -> Differing<'t> {
-        let parts = source.policy.parts();
+    fn of_relabel(relabel: &Relabel) -> Differing {
         Differing {
             what: match relabel.labelling {
                 Labelling::Transition => "transition",
                 Labelling::Member => "member",
             },
-            source: text_of(type_name(parts, relabel.s)),
-            target: text_of(type_name(parts, relabel.t)),
-            class: class_name(relabel.class),
+            s: relabel.s,
+            t: relabel.t,
+            class: relabel.class,
             permission: None,
-            line_before: relabel.before,
-            text_before: source.line(relabel.before),
-            line_after: relabel.after,
-            text_after: source.line(relabel.after),
+            before: relabel.before,
+            after: relabel.after,
         }
-    }
-}
-
-impl Listed for Differing<'_> {
-    fn put_lines(&self, out: &mut String) -> Result<(), Memory> {
-        put_all(out, &[self.what, " "])?;
-        put_all(out, &[self.source, " ", self.target, " "])?;
-        put_all(out, &[self.class])?;
-        if let Some(permission) = self.permission {
-            put_all(out, &[" ", permission])?;
-        }
-        put_all(out, &[", before "])?;
-        put_by(out, self.line_before, self.text_before)?;
-        put_all(out, &[", after "])?;
-        put_by(out, self.line_after, self.text_after)
-    }
-
-    fn put_json(&self, out: &mut String) -> Result<(), Memory> {
-        put_object(
-            out,
-            &[
-                ("what", Value::Text(self.what)),
-                ("source", Value::Text(self.source)),
-                ("target", Value::Text(self.target)),
-                ("class", Value::Text(self.class)),
-                ("permission", Value::of_text(self.permission)),
-                ("line_before", Value::of_number(self.line_before)),
-                ("text_before", Value::of_text(self.text_before)),
-                ("line_after", Value::of_number(self.line_after)),
-                ("text_after", Value::of_text(self.text_after)),
-            ],
-        )
     }
 }
 
 /// Answers `diff`. The status is 1 where the versions differ.
 pub(crate) fn diff(
     alloc: Global,
-    source: Source<'_>,
-    form: Form,
+    bytes: &[u8],
     words: &DiffWords<'_>,
-) -> Result<Report, Stop> {
-    let before = version_of(alloc, source.policy, words.before)?;
-    let after = version_of(alloc, source.policy, words.after)?;
-    let mut found = Vec::new(alloc);
-    put_changes(alloc, source, (before, after), &mut found)?;
-    put_relabels(alloc, source, (before, after), &mut found)?;
-    let status = if found.is_empty() { 0 } else { 1 };
-    report_of(alloc, form, status, found.as_slice())
+    out: &mut Report,
+) -> Result<(), Stop> {
+    let text = read_or_explain(alloc, bytes)?;
+    let policy = text.policy();
+    let before = version_of(alloc, policy, words.before)?;
+    let after = version_of(alloc, policy, words.after)?;
+    let changed = changes(alloc, policy, before, after)?;
+    let given = relabels(alloc, policy, before, after)?;
+    let source = Source { bytes, policy };
+    Ok(put_differences(source, changed.as_slice(), given.as_slice(), out)?)
 }
 
-fn put_changes<'t>(
-    alloc: Global,
-    source: Source<'t>,
-    versions: (u8, u8),
-    found: &mut Vec<Differing<'t>>,
-) -> Result<(), Stop> {
-    let all = changes(alloc, source.policy, versions.0, versions.1)?;
-    'changes: for change in all.as_slice() {
-        found.push(Differing::of_change(source, change))?;
+fn put_differences(
+    source: Source<'_>,
+    changes: &[Change],
+    relabels: &[Relabel],
+    out: &mut Report,
+) -> Result<(), Memory> {
+    out.begin(u8::from(!changes.is_empty() || !relabels.is_empty()))?;
+    'changes: for change in changes {
+        put_differing(source, Differing::of_change(change), out)?;
+    }
+    'relabels: for relabel in relabels {
+        put_differing(source, Differing::of_relabel(relabel), out)?;
     }
     Ok(())
 }
 
-fn put_relabels<'t>(
-    alloc: Global,
-    source: Source<'t>,
-    versions: (u8, u8),
-    found: &mut Vec<Differing<'t>>,
-) -> Result<(), Stop> {
-    let all = relabels(alloc, source.policy, versions.0, versions.1)?;
-    'relabels: for relabel in all.as_slice() {
-        found.push(Differing::of_relabel(source, relabel))?;
-    }
-    Ok(())
+fn put_differing(source: Source<'_>, differing: Differing, out: &mut Report) -> Result<(), Memory> {
+    let parts = source.policy.parts();
+    let Differing {
+        before,
+        after,
+        permission,
+        ..
+    } = differing;
+    let (text_before, text_after) = (source.line(before), source.line(after));
+    let what = Value::Text(differing.what);
+    let s = Value::Text(text_of(type_name(parts, differing.s)));
+    let t = Value::Text(text_of(type_name(parts, differing.t)));
+    let class = Value::Text(class_name(differing.class));
+    let space = Value::Text(" ");
+    let gap = if permission.is_some() {
+        space
+    } else {
+        Value::Null
+    };
+    out.put(
+        &[
+            what,
+            space,
+            s,
+            space,
+            t,
+            space,
+            class,
+            gap,
+            Value::of_text(permission),
+            Value::Text(", before "),
+            Value::By(before, text_before),
+            Value::Text(", after "),
+            Value::By(after, text_after),
+        ],
+        &[
+            ("what", what),
+            ("source", s),
+            ("target", t),
+            ("class", class),
+            ("permission", Value::of_text(permission)),
+            ("line_before", Value::of_number(before)),
+            ("text_before", Value::of_text(text_before)),
+            ("line_after", Value::of_number(after)),
+            ("text_after", Value::of_text(text_after)),
+        ],
+    )
 }

@@ -1,179 +1,161 @@
 //! What is found wrong with a text.
 
-use crate::json::{Value, put_object};
-use crate::report::Listed;
-use crate::source::Source;
-use fault_causes::{Cause, explain, line_at, put_all, put_number};
+use crate::json::put_object;
+use crate::report::{Form, Report};
+use crate::text::is_session;
+use crate::values::{Value, put_line};
+use fault_causes::{Cause, Mark, explain, line_at, put_all};
 use flask_sid::Memory;
-use std::alloc::{AllocError, Global};
+use std::alloc::Global;
 use text_lines::FaultKind;
 
-/// A fault: the number of the line, the kind, the cause in one sentence, the text of the line, the bytes at fault, the form of such
-/// a line, and the known name that is nearest to an unknown one. Columns are counted from 1.
-#[derive(Drop)]
+/// A fault: the number of the line, the kind, the cause in one sentence, the line, the bytes at fault, the form of such
+/// a line, and the known name that is nearest to an unknown one.
+#[derive(Clone, Copy)]
 pub(crate) struct Finding<'t> {
     pub(crate) line: Option<u32>,
     pub(crate) kind: &'static str,
-    pub(crate) cause: String,
-    pub(crate) text: Option<String>,
-    pub(crate) column: Option<usize>,
-    pub(crate) length: Option<usize>,
+    pub(crate) cause: &'t str,
+    pub(crate) text: Option<&'t [u8]>,
+    pub(crate) mark: Option<Mark>,
     pub(crate) form: Option<&'static str>,
     pub(crate) nearest: Option<&'t str>,
 }
 
-impl Finding<'_> {
-    fn text(&self) -> Option<&str> {
-        match &self.text {
-            None => None,
-            Some(text) => Some(text.as_str()),
+impl<'t> Finding<'t> {
+    /// A finding with nothing shown below it.
+    pub(crate) fn new(kind: &'static str, cause: &'t str) -> Finding<'t> {
+        Finding {
+            line: None,
+            kind,
+            cause,
+            text: None,
+            mark: None,
+            form: None,
+            nearest: None,
         }
     }
 
-    fn put_head(&self, out: &mut String) -> Result<(), Memory> {
-        if let Some(line) = self.line {
-            put_all(out, &["line "])?;
-            put_number(out, u64::from(line))?;
-            put_all(out, &[": "])?;
-        }
-        put_all(out, &[self.kind])?;
-        put_all(out, &["\n  ", self.cause.as_str()])
+    /// The finding at a whole line.
+    pub(crate) fn at_line(mut self, bytes: &'t [u8], line: u32) -> Finding<'t> {
+        self.line = Some(line);
+        self.text = line_at(bytes, line);
+        self
+    }
+
+    /// The finding with what is told of a cause.
+    fn with_cause(mut self, cause: &Cause<'t>) -> Finding<'t> {
+        self.mark = cause.mark;
+        self.form = cause.form;
+        self.nearest = cause.nearest;
+        self
     }
 }
 
-impl Listed for Finding<'_> {
-    fn put_lines(&self, out: &mut String) -> Result<(), Memory> {
-        self.put_head(out)?;
-        put_behind(out, "\n  | ", self.text(), "")?;
-        put_marks(out, self.column, self.length)?;
-        put_behind(out, "\n  form: ", self.form, "")?;
-        put_behind(out, "\n  did you mean ", self.nearest, "?")
+/// Puts a finding.
+pub(crate) fn put_finding(found: &Finding<'_>, out: &mut Report) -> Result<(), Memory> {
+    out.part("\n")?;
+    match out.form {
+        Form::Lines => put_lines(found, &mut out.text),
+        Form::Json => put_json(found, &mut out.text),
     }
+}
 
-    fn put_json(&self, out: &mut String) -> Result<(), Memory> {
-        put_object(
+fn put_lines(found: &Finding<'_>, out: &mut String) -> Result<(), Memory> {
+    if let Some(line) = found.line {
+        put_line(
             out,
             &[
-                ("line", Value::of_number(self.line)),
-                ("kind", Value::Text(self.kind)),
-                ("cause", Value::Text(self.cause.as_str())),
-                ("text", Value::of_text(self.text())),
-                ("column", Value::of_count(self.column)),
-                ("length", Value::of_count(self.length)),
-                ("form", Value::of_text(self.form)),
-                ("nearest", Value::of_text(self.nearest)),
+                Value::Text("line "),
+                Value::Number(u64::from(line)),
+                Value::Text(": "),
             ],
-        )
+        )?;
     }
-}
-
-/// Puts a text between two others, where there is one.
-fn put_behind(
-    out: &mut String,
-    before: &str,
-    text: Option<&str>,
-    behind: &str,
-) -> Result<(), Memory> {
-    match text {
+    put_all(out, &[found.kind, "\n  "])?;
+    put_all(out, &[found.cause])?;
+    if let Some(text) = found.text {
+        put_line(out, &[Value::Text("\n  | "), Value::Shown(text)])?;
+    }
+    if let Some(mark) = found.mark {
+        put_mark(out, mark)?;
+    }
+    if let Some(form) = found.form {
+        put_all(out, &["\n  form: ", form])?;
+    }
+    match found.nearest {
         None => Ok(()),
-        Some(text) => put_all(out, &[before, text, behind]),
+        Some(name) => put_all(out, &["\n  did you mean ", name, "?"]),
     }
 }
 
 /// Marks the bytes at fault below the line.
-fn put_marks(out: &mut String, column: Option<usize>, length: Option<usize>) -> Result<(), Memory> {
-    let (Some(column), Some(length)) = (column, length) else {
-        return Ok(());
-    };
+fn put_mark(out: &mut String, mark: Mark) -> Result<(), Memory> {
     put_all(out, &["\n  | "])?;
-    'spaces: for _ in 1..column {
+    'spaces: for _ in 0..mark.from {
         put_all(out, &[" "])?;
     }
-    'marks: for _ in 0..length {
+    'marks: for _ in 0..mark.length {
         put_all(out, &["^"])?;
     }
     Ok(())
 }
 
-/// The fault of a text that a reader refuses at a line.
-pub(crate) fn finding_of<'t>(
+/// Puts a finding as an object of JSON. Columns are counted from 1.
+fn put_json(found: &Finding<'_>, out: &mut String) -> Result<(), Memory> {
+    let (column, length) = match found.mark {
+        None => (Value::Null, Value::Null),
+        Some(mark) => (
+            Value::Number(mark.from.saturating_add(1) as u64),
+            Value::Number(mark.length as u64),
+        ),
+    };
+    let text = match found.text {
+        None => Value::Null,
+        Some(text) => Value::Shown(text),
+    };
+    put_object(
+        out,
+        &[
+            ("line", Value::of_number(found.line)),
+            ("kind", Value::Text(found.kind)),
+            ("cause", Value::Text(found.cause)),
+            ("text", text),
+            ("column", column),
+            ("length", length),
+            ("form", Value::of_text(found.form)),
+            ("nearest", Value::of_text(found.nearest)),
+        ],
+    )
+}
+
+/// Puts the fault of a text that a reader refuses at a line.
+pub(crate) fn put_fault(
     alloc: Global,
-    bytes: &'t [u8],
+    bytes: &[u8],
     line: u32,
     kind: FaultKind,
-    is_session: bool,
-) -> Result<Finding<'t>, Memory> {
-    let cause = explain(alloc, bytes, line, kind, is_session)?;
-    let text = match line_at(bytes, line) {
-        None => None,
-        Some(text) => Some(shown(alloc, text)?),
-    };
-    Ok(told(line, kind, cause, text))
+    out: &mut Report,
+) -> Result<(), Memory> {
+    let cause = explain(alloc, bytes, line, kind, is_session(bytes))?;
+    let found = Finding::new(kind_text(kind), cause.what.as_str());
+    put_finding(&found.at_line(bytes, line).with_cause(&cause), out)
 }
 
-fn told<'t>(line: u32, kind: FaultKind, cause: Cause<'t>, text: Option<String>) -> Finding<'t> {
-    let (column, length) = match cause.mark {
-        None => (None, None),
-        Some(mark) => (Some(mark.from.saturating_add(1)), Some(mark.length)),
-    };
-    Finding {
-        line: Some(line),
-        kind: kind_text(kind),
-        cause: cause.what,
-        text,
-        column,
-        length,
-        form: cause.form,
-        nearest: cause.nearest,
-    }
-}
-
-/// A finding about a whole line.
-pub(crate) fn at_line<'t>(
+/// What is told of a text that a reader refuses at a line.
+pub(crate) fn refused(
     alloc: Global,
-    source: Source<'_>,
+    bytes: &[u8],
     line: u32,
-    kind: &'static str,
-    cause: String,
-) -> Result<Finding<'t>, Memory> {
-    let mut found = bare(Some(line), kind, cause);
-    if let Some(text) = source.line(Some(line)) {
-        found.text = Some(shown(alloc, text.as_bytes())?);
-    }
-    Ok(found)
-}
-
-/// A finding with nothing shown below it.
-pub(crate) fn bare<'t>(line: Option<u32>, kind: &'static str, cause: String) -> Finding<'t> {
-    Finding {
-        line,
-        kind,
-        cause,
-        text: None,
-        column: None,
-        length: None,
-        form: None,
-        nearest: None,
-    }
-}
-
-/// A line as it can be shown: each byte is one column. A tab is shown as a space, and what is no ASCII as `?`.
-fn shown(alloc: Global, line: &[u8]) -> Result<String, AllocError> {
-    let mut text = String::new(alloc);
-    'bytes: for b in line {
-        if b.is_ascii_graphic() {
-            text.push(char::from(*b))?;
-        } else if *b == b' ' || *b == b'\t' {
-            text.push(' ')?;
-        } else {
-            text.push('?')?;
-        }
-    }
-    Ok(text)
+    kind: FaultKind,
+) -> Result<String, Memory> {
+    let mut out = Report::new(alloc, Form::Lines);
+    put_fault(alloc, bytes, line, kind, &mut out)?;
+    Ok(out.text)
 }
 
 /// The name of a kind of fault, as `flaskd` tells it.
-pub(crate) fn kind_text(kind: FaultKind) -> &'static str {
+fn kind_text(kind: FaultKind) -> &'static str {
     match kind {
         FaultKind::Syntax => "syntax",
         FaultKind::Order => "order",

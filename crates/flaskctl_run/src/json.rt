@@ -1,52 +1,20 @@
-//! Answers as JSON.
+//! Values as JSON.
 
+use crate::values::{Value, shown};
 use fault_causes::{put_all, put_number};
 use flask_sid::Memory;
-
-/// A value of a member.
-#[derive(Clone, Copy)]
-pub(crate) enum Value<'t> {
-    Null,
-    Truth(bool),
-    Number(u64),
-    Text(&'t str),
-    Numbers(&'t [u8]),
-}
-
-impl<'t> Value<'t> {
-    /// A number that there may not be.
-    pub(crate) fn of_number(number: Option<u32>) -> Value<'t> {
-        match number {
-            None => Value::Null,
-            Some(number) => Value::Number(u64::from(number)),
-        }
-    }
-
-    /// A count that there may not be.
-    pub(crate) fn of_count(count: Option<usize>) -> Value<'t> {
-        match count {
-            None => Value::Null,
-            Some(count) => Value::Number(count as u64),
-        }
-    }
-
-    /// A text that there may not be.
-    pub(crate) fn of_text(text: Option<&'t str>) -> Value<'t> {
-        match text {
-            None => Value::Null,
-            Some(text) => Value::Text(text),
-        }
-    }
-}
 
 /// Puts an object with these members, by name and value.
 pub(crate) fn put_object(
     out: &mut String,
     members: &[(&'static str, Value<'_>)],
 ) -> Result<(), Memory> {
-    'members: for (at, (name, value)) in members.iter().enumerate() {
-        put_all(out, &[if at == 0 { "{\"" } else { ",\"" }, *name, "\":"])?;
+    let mut gap = "{\"";
+    'members: for (name, value) in members {
+        put_all(out, &[gap])?;
+        put_all(out, &[*name, "\":"])?;
         put_value(out, value)?;
+        gap = ",\"";
     }
     put_all(out, &["}"])
 }
@@ -54,19 +22,22 @@ pub(crate) fn put_object(
 fn put_value(out: &mut String, value: &Value<'_>) -> Result<(), Memory> {
     match value {
         Value::Null => put_all(out, &["null"]),
-        Value::Truth(true) => put_all(out, &["true"]),
-        Value::Truth(false) => put_all(out, &["false"]),
+        Value::Truth(yes) => put_all(out, &[if *yes { "true" } else { "false" }]),
         Value::Number(number) => put_number(out, *number),
         Value::Text(text) => put_text(out, *text),
         Value::Numbers(numbers) => put_numbers(out, *numbers),
+        Value::Shown(line) => put_shown(out, *line),
+        Value::By(line, _) => put_value(out, &Value::of_number(*line)),
     }
 }
 
 fn put_numbers(out: &mut String, numbers: &[u8]) -> Result<(), Memory> {
     put_all(out, &["["])?;
-    'numbers: for (at, number) in numbers.iter().enumerate() {
-        put_all(out, &[if at == 0 { "" } else { "," }])?;
+    let mut gap = "";
+    'numbers: for number in numbers {
+        put_all(out, &[gap])?;
         put_number(out, u64::from(*number))?;
+        gap = ",";
     }
     put_all(out, &["]"])
 }
@@ -79,14 +50,21 @@ fn put_text(out: &mut String, text: &str) -> Result<(), Memory> {
     put_all(out, &["\""])
 }
 
+fn put_shown(out: &mut String, line: &[u8]) -> Result<(), Memory> {
+    put_all(out, &["\""])?;
+    'bytes: for b in line {
+        put_byte(out, shown(*b))?;
+    }
+    put_all(out, &["\""])
+}
+
 /// Puts a byte of a text. A text has the bytes 32 to 126 and tabs alone, and any other is put as `?`.
 fn put_byte(out: &mut String, b: u8) -> Result<(), Memory> {
     match b {
         b'"' => put_all(out, &["\\\""]),
         b'\\' => put_all(out, &["\\\\"]),
         b'\t' => put_all(out, &["\\t"]),
-        b' '..=b'~' => put_char(out, char::from(b)),
-        _ => put_all(out, &["?"]),
+        _ => put_char(out, char::from(shown(b))),
     }
 }
 

@@ -1,10 +1,11 @@
 //! What the words of a command name in a policy.
 
 use crate::stop::Stop;
+use crate::values::{Value, sentence};
 use access_vectors::{Class, Perm, class_of, perm_of};
 use fault_causes::{
-    CLASSES, digits, joined, listed, nearest, no_class, no_permission, permission_names, put_all,
-    text_of,
+    CLASSES, joined, nearest, permission_names, put_all, put_listed, put_no_class,
+    put_no_permission, text_of,
 };
 use flask_sid::{Memory, Word, context_form};
 use policy_model::{AttributeLine, PolicyParts, PolicyText};
@@ -21,15 +22,14 @@ pub(crate) fn version_of(alloc: Global, policy: &PolicyText, word: &str) -> Resu
             }
         }
     }
-    let count = digits(alloc, count as u64)?;
-    Err(Stop::Usage(joined(
+    Err(Stop::Usage(sentence(
         alloc,
         &[
-            "the policy has no version '",
-            word,
-            "': it has ",
-            count.as_str(),
-            ", counted from 0",
+            Value::Text("the policy has no version '"),
+            Value::Text(word),
+            Value::Text("': it has "),
+            Value::Number(count as u64),
+            Value::Text(", counted from 0"),
         ],
     )?))
 }
@@ -44,49 +44,54 @@ pub(crate) fn type_of<'w>(
     if is_type(parts, word.as_bytes()) {
         return Ok(word.as_bytes());
     }
-    if let Some(attribute) = attribute_of(parts, word.as_bytes()) {
-        return Err(Stop::Usage(no_attribute(alloc, attribute, word)?));
-    }
-    if let Some(context) = context_form(word.as_bytes()) {
-        let kind = text_of(context.kind.as_bytes());
-        return Err(Stop::Usage(of_word(alloc, word, "is a context: ask of its type, ", kind)?));
-    }
-    let names = type_names(alloc, parts)?;
-    let text = joined(alloc, &["the policy has no type '", word, "'"])?;
-    Err(Stop::Usage(with_nearest(alloc, text, word, names.as_slice())?))
-}
-
-fn of_word(alloc: Global, word: &str, what: &str, name: &str) -> Result<String, Memory> {
-    joined(alloc, &["'", word, "' ", what, name])
-}
-
-/// The text with the nearest of these names behind it, where one is near.
-fn with_nearest(
-    alloc: Global,
-    mut text: String,
-    word: &str,
-    names: &[&str],
-) -> Result<String, Memory> {
-    if let Some(name) = nearest(alloc, word, names)? {
-        put_all(&mut text, &["; did you mean ", name, "?"])?;
-    }
-    Ok(text)
+    Err(Stop::Usage(no_type(alloc, parts, word)?))
 }
 
 fn is_type(policy: &PolicyParts, name: &[u8]) -> bool {
-    policy
-        .kinds
-        .as_slice()
-        .iter()
-        .any(|kind| kind.name.as_bytes() == name)
+    'types: for kind in policy.kinds.as_slice() {
+        if kind.name.as_bytes() == name {
+            return true;
+        }
+    }
+    false
 }
 
-fn type_names(alloc: Global, policy: &PolicyParts) -> Result<Vec<&str>, Memory> {
+/// What is said of a word that names no type.
+fn no_type(alloc: Global, policy: &PolicyParts, word: &str) -> Result<String, Memory> {
+    if let Some(attribute) = attribute_of(policy, word.as_bytes()) {
+        return no_attribute(alloc, attribute, word);
+    }
+    if let Some(context) = context_form(word.as_bytes()) {
+        let kind = text_of(context.kind.as_bytes());
+        return joined(
+            alloc,
+            &["'", word, "' is a context: ask of its type, ", kind],
+        );
+    }
+    let mut text = joined(alloc, &["the policy has no type '", word, "'"])?;
+    put_nearest_type(&mut text, alloc, policy, word)?;
+    Ok(text)
+}
+
+fn put_nearest_type(
+    out: &mut String,
+    alloc: Global,
+    policy: &PolicyParts,
+    word: &str,
+) -> Result<(), Memory> {
     let mut names = Vec::new(alloc);
     'types: for kind in policy.kinds.as_slice() {
         names.push(text_of(kind.name.as_bytes()))?;
     }
-    Ok(names)
+    put_nearest(out, alloc, word, names.as_slice())
+}
+
+/// Puts the nearest of these names behind a text, where one is near.
+fn put_nearest(out: &mut String, alloc: Global, word: &str, names: &[&str]) -> Result<(), Memory> {
+    match nearest(alloc, word, names)? {
+        None => Ok(()),
+        Some(name) => put_all(out, &["; did you mean ", name, "?"]),
+    }
 }
 
 /// The attribute of a name.
@@ -101,17 +106,20 @@ fn attribute_of<'p>(policy: &'p PolicyParts, name: &[u8]) -> Option<&'p Attribut
 
 /// What is said of an attribute where a type is wanted.
 fn no_attribute(alloc: Global, attribute: &AttributeLine, word: &str) -> Result<String, Memory> {
+    let mut text = joined(
+        alloc,
+        &["'", word, "' is an attribute: ask of one of its types, "],
+    )?;
+    put_members(&mut text, alloc, attribute)?;
+    Ok(text)
+}
+
+fn put_members(out: &mut String, alloc: Global, attribute: &AttributeLine) -> Result<(), Memory> {
     let mut names = Vec::new(alloc);
     'members: for member in attribute.members.as_slice() {
         names.push(text_of(member.as_bytes()))?;
     }
-    let all = listed(alloc, names.as_slice())?;
-    of_word(
-        alloc,
-        word,
-        "is an attribute: ask of one of its types, ",
-        all.as_str(),
-    )
+    put_listed(out, names.as_slice())
 }
 
 /// The class of a name.
@@ -119,8 +127,10 @@ pub(crate) fn class_named(alloc: Global, word: &str) -> Result<Class, Stop> {
     if let Some(class) = class_of(word.as_bytes()) {
         return Ok(class);
     }
-    let text = no_class(alloc, word)?;
-    Err(Stop::Usage(with_nearest(alloc, text, word, CLASSES.as_slice())?))
+    let mut text = String::new(alloc);
+    put_no_class(&mut text, word)?;
+    put_nearest(&mut text, alloc, word, CLASSES.as_slice())?;
+    Err(Stop::Usage(text))
 }
 
 /// The permission of a class with a name.
@@ -128,7 +138,14 @@ pub(crate) fn permission_named(alloc: Global, class: Class, word: &str) -> Resul
     if let Some(perm) = perm_of(class, word.as_bytes()) {
         return Ok(perm);
     }
+    let mut text = String::new(alloc);
+    put_not_of(&mut text, alloc, class, word)?;
+    Err(Stop::Usage(text))
+}
+
+/// Puts what is said of a word that is no permission of a class, and the nearest that is.
+fn put_not_of(out: &mut String, alloc: Global, class: Class, word: &str) -> Result<(), Memory> {
+    put_no_permission(out, alloc, class, word)?;
     let names = permission_names(alloc, class)?;
-    let text = no_permission(alloc, class, word)?;
-    Err(Stop::Usage(with_nearest(alloc, text, word, names.as_slice())?))
+    put_nearest(out, alloc, word, names.as_slice())
 }

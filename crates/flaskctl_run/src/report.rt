@@ -1,77 +1,91 @@
 //! Answers as texts: in lines for each result, or as one object of JSON.
 
-use crate::stop::Stop;
+use crate::json::put_object;
+use crate::values::{Value, put_line};
 use fault_causes::{put_all, put_number};
 use flask_sid::Memory;
 use std::alloc::Global;
 
 /// How an answer is written.
-#[derive(Clone, Copy, Debug, PartialEq, Eq)]
+#[derive(Clone, Copy)]
 pub(crate) enum Form {
     Lines,
     Json,
 }
 
 /// What a command writes to standard output, and the exit status: 0, or 1 for an answer "no" or a finding.
-#[derive(Debug, Drop)]
+#[derive(Drop)]
 pub struct Report {
     pub text: String,
     pub status: u8,
+    pub(crate) form: Form,
+    /// Whether the list that is being written has results.
+    pub(crate) is_begun: bool,
 }
 
-/// A result of a command.
-pub(crate) trait Listed {
-    /// Puts it as lines, without the end of the last one.
-    fn put_lines(&self, out: &mut String) -> Result<(), Memory>;
-
-    /// Puts it as an object of JSON.
-    fn put_json(&self, out: &mut String) -> Result<(), Memory>;
-}
-
-/// The answer of a command with these results.
-pub(crate) fn report_of<T: Listed>(
-    alloc: Global,
-    form: Form,
-    status: u8,
-    results: &[T],
-) -> Result<Report, Stop> {
-    let mut text = String::new(alloc);
-    match form {
-        Form::Lines => put_lines(&mut text, results)?,
-        Form::Json => {
-            put_status(&mut text, status)?;
-            put_list(&mut text, "results", results)?;
-            put_all(&mut text, &["}\n"])?;
+impl Report {
+    /// A report that says nothing yet.
+    pub(crate) fn new(alloc: Global, form: Form) -> Report {
+        Report {
+            text: String::new(alloc),
+            status: 0,
+            form,
+            is_begun: false,
         }
     }
-    Ok(Report { text, status })
-}
 
-/// Puts each result in lines of its own.
-pub(crate) fn put_lines<T: Listed>(out: &mut String, results: &[T]) -> Result<(), Memory> {
-    'results: for result in results {
-        result.put_lines(out)?;
-        put_all(out, &["\n"])?;
+    /// Begins the results, with the exit status.
+    pub(crate) fn begin(&mut self, status: u8) -> Result<(), Memory> {
+        self.status = status;
+        if let Form::Json = self.form {
+            put_all(&mut self.text, &["{\"status\":"])?;
+            put_number(&mut self.text, u64::from(status))?;
+            put_all(&mut self.text, &[",\"results\":["])?;
+        }
+        Ok(())
     }
-    Ok(())
-}
 
-/// Puts the beginning of an object, with the exit status.
-pub(crate) fn put_status(out: &mut String, status: u8) -> Result<(), Memory> {
-    put_all(out, &["{\"status\":"])?;
-    put_number(out, u64::from(status))
-}
-
-/// Puts a member that is a list of results, behind another.
-pub(crate) fn put_list<T: Listed>(
-    out: &mut String,
-    name: &str,
-    results: &[T],
-) -> Result<(), Memory> {
-    put_all(out, &[",\"", name, "\":["])?;
-    'results: for (at, result) in results.iter().enumerate() {
-        put_all(out, &[if at == 0 { "" } else { "," }])?;
-        result.put_json(out)?;
+    /// Begins notes, behind the results.
+    pub(crate) fn begin_notes(&mut self) -> Result<(), Memory> {
+        match self.form {
+            Form::Lines => Ok(()),
+            Form::Json => {
+                self.is_begun = false;
+                put_all(&mut self.text, &["],\"notes\":["])
+            }
+        }
     }
-    put_all(out, &["]"])
+
+    /// Puts a result: a line of these values, or an object with these members.
+    pub(crate) fn put(
+        &mut self,
+        line: &[Value<'_>],
+        members: &[(&'static str, Value<'_>)],
+    ) -> Result<(), Memory> {
+        self.part("\n")?;
+        match self.form {
+            Form::Lines => put_line(&mut self.text, line),
+            Form::Json => put_object(&mut self.text, members),
+        }
+    }
+
+    /// Parts a result from the one before it: in lines by a gap.
+    pub(crate) fn part(&mut self, gap: &str) -> Result<(), Memory> {
+        if !self.is_begun {
+            self.is_begun = true;
+            return Ok(());
+        }
+        match self.form {
+            Form::Lines => put_all(&mut self.text, &[gap]),
+            Form::Json => put_all(&mut self.text, &[","]),
+        }
+    }
+
+    /// Ends the answer.
+    pub(crate) fn end(&mut self) -> Result<(), Memory> {
+        match self.form {
+            Form::Lines => put_all(&mut self.text, &[if self.is_begun { "\n" } else { "" }]),
+            Form::Json => put_all(&mut self.text, &["]}\n"]),
+        }
+    }
 }

@@ -1,6 +1,6 @@
 //! A session that is run for its answers.
 
-use crate::answering::read_or_explain;
+use crate::source::read_or_explain;
 use crate::stop::Stop;
 use crate::text::Text;
 use session_text::Session;

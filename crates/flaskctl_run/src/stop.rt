@@ -4,7 +4,7 @@ use flask_sid::Memory;
 use std::alloc::{AllocError, AllocFailed};
 
 /// Why a command has no answer.
-#[derive(Debug, Drop)]
+#[derive(Drop)]
 pub enum Stop {
     /// The words ask for what the policy has not: what is said of it.
     Usage(String),

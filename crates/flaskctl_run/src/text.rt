@@ -1,5 +1,6 @@
 //! A text as the policy or the session that it is.
 
+use fault_causes::Lines;
 use policy_model::PolicyText;
 use session_text::Session;
 use std::alloc::Global;
@@ -7,7 +8,7 @@ use std::mem::ManuallyDrop;
 use text_lines::{TextFault, Words};
 
 /// A policy, alone or at the head of a session.
-#[derive(Debug, Drop)]
+#[derive(Drop)]
 pub(crate) enum Text {
     Policy(PolicyText),
     Session(Session),
@@ -40,9 +41,16 @@ pub(crate) fn read_text(alloc: Global, bytes: &[u8]) -> Result<ManuallyDrop<Text
 
 /// Whether some line begins with `session`.
 pub(crate) fn is_session(bytes: &[u8]) -> bool {
-    bytes
-        .split(|b| *b == b'\n')
-        .any(|line| begins_session(line))
+    let mut lines = Lines::new(bytes);
+    'lines: for _ in 0..bytes.len() {
+        match lines.next() {
+            None => return false,
+            Some(line) => if begins_session(line) {
+                return true;
+            },
+        }
+    }
+    false
 }
 
 fn begins_session(line: &[u8]) -> bool {

@@ -1,9 +1,9 @@
 //! Answers of a session's lines in words, as `flaskd serial` prints them.
 
-use crate::stop::Stop;
+use crate::values::{Value, put_line};
 use answer_text::{Worded, put_aborted};
 use change_protocol::{AckAll, NotifyAllFault, Said};
-use fault_causes::{joined, put_all, put_number, text_of};
+use fault_causes::{put_all, text_of};
 use flask_sid::{Memory, SidTable, Text};
 use manager_history::Answer;
 use session_forms::Manager;
@@ -20,12 +20,13 @@ pub(crate) struct Named<'t> {
     pub(crate) clients: &'t [ClientLine],
 }
 
-/// The answer of a line, behind the number of the line.
-pub(crate) fn answer_words(
+/// Puts the answer of a line, behind the number of the line.
+pub(crate) fn put_answer_words(
     alloc: Global,
     named: Named<'_>,
     answer: &LineAnswer,
-) -> Result<String, Stop> {
+    out: &mut String,
+) -> Result<(), Memory> {
     match answer {
         LineAnswer::Replied {
             client,
@@ -33,127 +34,125 @@ pub(crate) fn answer_words(
             number,
             got,
         } => {
-            let words = reply_words(alloc, named.contexts, got)?;
-            of_client(
-                alloc,
-                named,
-                *client,
-                *manager,
-                *number,
-                text_of(words.as_bytes()),
-            )
+            put_client(named, *client, *manager, *number, out)?;
+            put_reply(alloc, named.contexts, got, out)
         }
         LineAnswer::Begun {
             client,
             manager,
             number,
-        } => of_client(alloc, named, *client, *manager, *number, " begun"),
+        } => {
+            put_client(named, *client, *manager, *number, out)?;
+            put_all(out, &[" begun"])
+        }
         LineAnswer::Ended {
             client,
             manager,
             number,
-        } => of_client(alloc, named, *client, *manager, *number, " ended"),
-        LineAnswer::Notified(said) => notified(alloc, said),
-        LineAnswer::Updated(left) => updated(alloc, *left),
-        LineAnswer::Acknowledged(acks) => acknowledged(alloc, *acks),
+        } => {
+            put_client(named, *client, *manager, *number, out)?;
+            put_all(out, &[" ended"])
+        }
+        LineAnswer::Notified(said) => put_notified(said, out),
+        LineAnswer::Updated(left) => put_updated(*left, out),
+        LineAnswer::Acknowledged(acks) => put_acknowledged(*acks, out),
     }
 }
 
-/// What a client got, behind its name, the manager and the policy number.
-fn of_client(
-    alloc: Global,
+/// Puts the name of a client, the manager and the policy number.
+fn put_client(
     named: Named<'_>,
     client: u8,
     manager: Manager,
     number: u32,
-    got: &str,
-) -> Result<String, Stop> {
-    let name = text_of(client_name(named.clients, client));
+    out: &mut String,
+) -> Result<(), Memory> {
     let manager = match manager {
-        Manager::File => "file",
-        Manager::Process => "process",
-        Manager::Port => "port",
+        Manager::File => " file ",
+        Manager::Process => " process ",
+        Manager::Port => " port ",
     };
-    put_client(alloc, name, manager, number, got)
+    put_line(
+        out,
+        &[
+            Value::Text(text_of(client_name(named.clients, client))),
+            Value::Text(manager),
+            Value::Number(u64::from(number)),
+        ],
+    )
 }
 
-fn put_client(
+/// Puts a reply, or that there is none, behind a space.
+fn put_reply(
     alloc: Global,
-    name: &str,
-    manager: &str,
-    number: u32,
-    got: &str,
-) -> Result<String, Stop> {
-    let mut text = joined(alloc, &[name, " ", manager, " "])?;
-    put_number(&mut text, u64::from(number))?;
-    put_all(&mut text, &[got])?;
-    Ok(text)
-}
-
-/// A reply, or that there is none, behind a space.
-fn reply_words(alloc: Global, contexts: &SidTable, got: &Answer<Reply>) -> Result<Text, Memory> {
+    contexts: &SidTable,
+    got: &Answer<Reply>,
+    out: &mut String,
+) -> Result<(), Memory> {
     let mut words = Text::new(alloc);
+    put_reply_words(contexts, got, &mut words)?;
+    put_all(out, &[text_of(words.as_bytes())])
+}
+
+fn put_reply_words(
+    contexts: &SidTable,
+    got: &Answer<Reply>,
+    words: &mut Text,
+) -> Result<(), Memory> {
     match got {
-        Answer::Aborted => put_aborted(&mut words)?,
-        Answer::Did(Reply::File(reply)) => reply.put(&mut words, contexts)?,
-        Answer::Did(Reply::Process(reply)) => reply.put(&mut words, contexts)?,
-        Answer::Did(Reply::Port(reply)) => reply.put(&mut words, contexts)?,
-    }
-    Ok(words)
-}
-
-fn notified(alloc: Global, said: &Result<u32, NotifyAllFault>) -> Result<String, Stop> {
-    match said {
-        Ok(number) => numbered(alloc, "admin notified ", *number),
-        Err(NotifyAllFault::Pending(number)) => numbered(alloc, "admin pending ", *number),
-        Err(NotifyAllFault::NoVersion) => Ok(String::from_str(alloc, "admin noversion")?),
-        Err(NotifyAllFault::Spent) => Ok(String::from_str(alloc, "admin spent")?),
-        Err(NotifyAllFault::Memory { .. }) => Ok(String::from_str(alloc, "admin memory")?),
+        Answer::Aborted => put_aborted(words),
+        Answer::Did(Reply::File(reply)) => reply.put(words, contexts),
+        Answer::Did(Reply::Process(reply)) => reply.put(words, contexts),
+        Answer::Did(Reply::Port(reply)) => reply.put(words, contexts),
     }
 }
 
-/// Words, and a number behind them.
-fn numbered(alloc: Global, words: &str, number: u32) -> Result<String, Stop> {
-    let mut text = String::from_str(alloc, words)?;
-    put_number(&mut text, u64::from(number))?;
-    Ok(text)
+fn put_notified(said: &Result<u32, NotifyAllFault>, out: &mut String) -> Result<(), Memory> {
+    let (words, number) = match said {
+        Ok(number) => ("admin notified ", Some(*number)),
+        Err(NotifyAllFault::Pending(number)) => ("admin pending ", Some(*number)),
+        Err(NotifyAllFault::NoVersion) => ("admin noversion", None),
+        Err(NotifyAllFault::Spent) => ("admin spent", None),
+        Err(NotifyAllFault::Memory { .. }) => ("admin memory", None),
+    };
+    put_line(out, &[Value::Text(words), Value::of_number(number)])
 }
 
-fn updated(alloc: Global, left: [u64; 3]) -> Result<String, Stop> {
-    let mut text = String::from_str(alloc, "admin updated")?;
+fn put_updated(left: [u64; 3], out: &mut String) -> Result<(), Memory> {
+    put_all(out, &["admin updated"])?;
     'managers: for count in &left {
-        put_all(&mut text, &[" "])?;
-        put_number(&mut text, *count)?;
+        put_line(out, &[Value::Text(" "), Value::Number(*count)])?;
     }
-    Ok(text)
+    Ok(())
 }
 
-fn acknowledged(alloc: Global, acks: Acks) -> Result<String, Stop> {
+fn put_acknowledged(acks: Acks, out: &mut String) -> Result<(), Memory> {
     match acks.all {
-        AckAll::Idle => Ok(String::from_str(alloc, "admin idle")?),
-        AckAll::Complete(number) => numbered(alloc, "admin complete ", number),
+        AckAll::Idle => put_all(out, &["admin idle"]),
+        AckAll::Complete(number) => put_line(
+            out,
+            &[
+                Value::Text("admin complete "),
+                Value::Number(u64::from(number)),
+            ],
+        ),
         AckAll::Waiting => {
-            let mut text = String::from_str(alloc, "admin waiting")?;
+            put_all(out, &["admin waiting"])?;
             'said: for said in &acks.said {
-                put_said(&mut text, *said)?;
+                put_said(*said, out)?;
             }
-            Ok(text)
+            Ok(())
         }
     }
 }
 
 /// Puts what a manager said, behind a space.
-fn put_said(text: &mut String, said: Said) -> Result<(), Memory> {
-    match said {
-        Said::Busy(older) => {
-            put_all(text, &[" busy:"])?;
-            put_number(text, older as u64)
-        }
-        Said::Behind(left) => {
-            put_all(text, &[" behind:"])?;
-            put_number(text, left as u64)
-        }
-        Said::Kept => put_all(text, &[" kept"]),
-        Said::Idle => put_all(text, &[" idle"]),
-    }
+fn put_said(said: Said, out: &mut String) -> Result<(), Memory> {
+    let (words, number) = match said {
+        Said::Busy(older) => (" busy:", Value::Number(older as u64)),
+        Said::Behind(left) => (" behind:", Value::Number(left as u64)),
+        Said::Kept => (" kept", Value::Null),
+        Said::Idle => (" idle", Value::Null),
+    };
+    put_line(out, &[Value::Text(words), number])
 }

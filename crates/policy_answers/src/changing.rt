@@ -14,7 +14,7 @@ use std::alloc::Global;
 
 /// A permission that one of two versions gives to the type at place `s` on the type at place `t`, counted from 0 in the order of
 /// declaration, and the other does not: what both decide, and by which lines.
-#[derive(Clone, Copy, Debug, PartialEq, Eq)]
+#[derive(Clone, Copy)]
 pub struct Change {
     pub s: u8,
     pub t: u8,

@@ -12,7 +12,7 @@ use std::alloc::Global;
 
 /// Whether a version allows a permission, and the number of the line that decides it: of the version's lines the last that
 /// speaks of the permission. Without such a line the answer is no.
-#[derive(Clone, Copy, Debug, PartialEq, Eq)]
+#[derive(Clone, Copy)]
 pub struct Decision {
     pub perm: Perm,
     pub yes: bool,

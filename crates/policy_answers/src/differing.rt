@@ -12,21 +12,21 @@ use policy_versions::{Kind, Kinds, VectorRows};
 use std::alloc::Global;
 
 /// The two versions that are compared, counted from 0.
-#[derive(Clone, Copy, Debug)]
+#[derive(Clone, Copy)]
 pub(crate) struct Versions {
     pub(crate) before: u8,
     pub(crate) after: u8,
 }
 
 /// The places of a source's and a target's type, counted from 0 in the order of declaration.
-#[derive(Clone, Copy, Debug)]
+#[derive(Clone, Copy)]
 pub(crate) struct Places {
     pub(crate) s: u8,
     pub(crate) t: u8,
 }
 
 /// What two versions decide for the types at two places, counted from 0 in the order of declaration, and a class.
-#[derive(Clone, Copy, Debug, PartialEq, Eq)]
+#[derive(Clone, Copy)]
 pub struct Difference {
     pub s: u8,
     pub t: u8,

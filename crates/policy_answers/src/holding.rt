@@ -14,7 +14,7 @@ use std::alloc::Global;
 
 /// A declared type, by its place in the order of declaration, counted from 0, that has a permission, and the number of the line
 /// by which it has it.
-#[derive(Clone, Copy, Debug, PartialEq, Eq)]
+#[derive(Clone, Copy)]
 pub struct Holder {
     pub s: u8,
     pub line: Option<u32>,

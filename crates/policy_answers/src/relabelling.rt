@@ -16,7 +16,7 @@ use std::alloc::Global;
 
 /// The types at two places, counted from 0 in the order of declaration, and a class, for which two versions give different types by
 /// `transition` or by `member` lines: the number of the line by which each gives one, if it does.
-#[derive(Clone, Copy, Debug, PartialEq, Eq)]
+#[derive(Clone, Copy)]
 pub struct Relabel {
     pub s: u8,
     pub t: u8,

@@ -9,7 +9,7 @@ use session_runner::{Caller, LineAnswer, LineOutcome, Recorder};
 use std::alloc::Global;
 
 /// What a client's call asked, with the answers, and the version under which the client acted, counted from 0.
-#[derive(Debug, Drop)]
+#[derive(Drop)]
 pub struct LineQuestions {
     pub version: u8,
     pub asked: Rows<Asked>,
