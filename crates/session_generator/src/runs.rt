@@ -49,7 +49,7 @@ pub fn numbered(alloc: Global, letter: u8, number: u32) -> Result<Piece, Memory>
 fn path_of(alloc: Global, file: u32) -> Result<FilePath, Memory>
     ensures { IfOk result (λ path. path ≡ Generated.path_of file) }
 {
-    let mut path = FilePath::new(alloc);
+    let mut path = FilePath::with_room(alloc, 1)?;
     path.push(numbered(alloc, b'f', file)?)?;
     Ok(path)
 }
