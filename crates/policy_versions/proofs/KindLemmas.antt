@@ -1,10 +1,12 @@
 -- Types by their places, and look-ups by name.
-use Rattle.std.proofs.Common.{◌≡◌, ◌∙◌, ℕ, ◌+◌, ◌<◌, ◌≤◌, Bool, true, false, cond, ltb, List, [], ◌∷◌, length, get_or, take, Option, Some, None, refl, sym, ap, subst, arith, ⊎_elim}
-use Rattle.std.specs.Prelude.{◌||◌, ◌&&◌, ◌==◌, MatchOption}
+use Rattle.std.proofs.Common.{◌≡◌, ◌∙◌, ℕ, ◌+◌, ◌<◌, ◌≤◌, Bool, true, false, cond, ltb, List, [], ◌∷◌, ◌++◌, length, get_or, take, Option, Some, None, refl, sym, ap, subst, arith, ⊎_elim}
+use Rattle.std.specs.Prelude.{◌||◌, ◌&&◌, ◌==◌, slice_get, MatchOption}
 use Rattle.std.specs.List.{list_any}
 use Rattle.std.specs.Str.{bytes_eq}
 use Rattle.std.proofs.lemmas.Bool.{false≢true, or_from, or_parts, and_left, false_from_ne_true, cases_order, cases_eq, eq-eqb, ne_eqb, lt-ltb, le-ltb}
 use Rattle.std.proofs.lemmas.List.{get_or-take, get_or_read, length-take-le, take_all}
+use Rattle.std.proofs.lemmas.Option.{slice_get_within, get_or_from_slice_get}
+use Rattle.std.proofs.lemmas.List.Elements.{All-get_or, All-push}
 use Rattle.std.proofs.lemmas.List.Folds.{list_any_more, list_any_at}
 use Rattle.std.proofs.lemmas.Slice.Eq.{bytes_eq-Decides}
 use Rattle.policy_model.specs.declared.policy.KindLine.{KindLine}
@@ -15,7 +17,8 @@ use Rattle.policy_model.specs.Kept.{Grows, IsWholePolicy, MayKind}
 use Rattle.policy_model.specs.Matching.{is_in, means}
 use Rattle.policy_versions.specs.declared.kind_set.KindSet.{KindSet}
 use Rattle.policy_versions.specs.Places.{name_at, kind_at}
-use Rattle.policy_versions.specs.Kinds.{IsPlaceOf, ArePlaces, IsSetOf, IsUndeclared, AreSets, AreApart}
+use Rattle.policy_versions.specs.declared.named_sets.NamedSet.{NamedSet}
+use Rattle.policy_versions.specs.Kinds.{AreNamed, IsPlaceOf, ArePlaces, IsSetOf, IsUndeclared, AreSets, AreApart}
 use Rattle.policy_versions.proofs.RowLemmas.{next_below}
 use Rattle.policy_versions.proofs.GrowsLemmas.{grows_at, grows_few}
 
@@ -313,3 +316,14 @@ members_more found members i member before now now' within read added has kinds 
     joined_or : (a b c : Bool) → ((a || b) || c) ≡ (a || (b || c))
     joined_or true b c = refl
     joined_or false b c = refl
+
+-- the set of a name that stands at a place
+pub named_at : (policy : PolicyParts) (sets : List NamedSet) (at : ℕ) (named : NamedSet) (name : List ℕ) → slice_get sets at ≡ Some named → bytes_eq named.name name ≡ true → AreNamed policy sets → IsSetOf policy name named.set.words
+named_at policy sets at named name found same all =
+    let there : get_or sets at named ≡ named = get_or_from_slice_get sets at named named found in
+    let own : IsSetOf policy named.name named.set.words = subst (λ (n : NamedSet). IsSetOf policy n.name n.set.words) there (All-get_or (λ (n : NamedSet). IsSetOf policy n.name n.set.words) sets at named (slice_get_within sets at named found) all) in
+    subst (λ n. IsSetOf policy n named.set.words) (same_name named.name name same) own
+
+-- one set more
+pub named_more : (policy : PolicyParts) (sets : List NamedSet) (name : List ℕ) (set : KindSet) → AreNamed policy sets → IsSetOf policy name set.words → AreNamed policy (sets ++ record { name = name; set = set } ∷ [])
+named_more policy sets name set all own = All-push (λ (n : NamedSet). IsSetOf policy n.name n.set.words) sets (record { name = name; set = set }) all own

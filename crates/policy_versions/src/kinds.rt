@@ -1,6 +1,6 @@
 //! Which declared types a name in a line means: its type, or the members of its attribute.
 
-ghost use Rattle.std.specs.Prelude.{◌≡◌, ℕ, ◌<◌, ◌≤◌, ◌||◌, false, List, length, IfOk, MatchOption};
+ghost use Rattle.std.specs.Prelude.{◌≡◌, ℕ, ◌<◌, ◌≤◌, ◌||◌, false, List, length, IfOk, OnOk, MatchOption};
 ghost use Rattle.std.specs.List.{list_any};
 ghost use Rattle.std.specs.Str.{bytes_eq};
 ghost use Rattle.std.specs.HashMap.{get};
@@ -10,10 +10,11 @@ ghost use Rattle.policy_model.specs.Declarations.{is_kind};
 ghost use Rattle.policy_model.specs.Kept.{IsWholePolicy};
 ghost use Rattle.policy_versions.specs.Sets.{has_place};
 ghost use Rattle.policy_versions.specs.Places.{name_at};
-ghost use Rattle.policy_versions.specs.Kinds.{AreApart, AreKindsOf, ArePlaces, AreSets, IsPlaceOf, IsSetOf, IsSourceSet};
+ghost use Rattle.policy_versions.specs.Kinds.{AreApart, AreKindsOf, AreNamed, ArePlaces, AreSets, IsPlaceOf, IsSetOf, IsSourceSet};
 
 use crate::kind::Kind;
 use crate::kind_set::KindSet;
+use crate::named_sets::NamedSets;
 use flask_sid::{Memory, Name};
 use policy_model::{AttributeLine, KindLine, PolicyParts, PolicyText, Who};
 use std::alloc::Global;
@@ -24,6 +25,8 @@ use std::collections::HashMap;
 pub struct Kinds {
     places: HashMap<Name, Kind>,
     sets: HashMap<Name, KindSet>,
+    /// The sets again, found at first sight.
+    named: NamedSets,
     every: KindSet,
     none: KindSet,
 }
@@ -36,9 +39,11 @@ impl Kinds {
         let parts = policy.parts();
         let places = places_of(alloc, parts.kinds.as_slice())?;
         let sets = sets_of(alloc, parts, &places)?;
+        let named = named_sets(alloc, parts, &sets)?;
         Ok(Kinds {
             places,
             sets,
+            named,
             every: KindSet::every(),
             none: KindSet::none(),
         })
@@ -64,6 +69,16 @@ impl Kinds {
     }
 
     fn named(&self, name: &Name) -> &KindSet
+        ensures { (policy : PolicyParts) → AreKindsOf policy self.now → IsSetOf policy name.now result.now.words }
+    {
+        match self.named.find(name) {
+            Some(set) => set,
+            None => self.indexed(name),
+        }
+    }
+
+    // The declared types that a name means, by the index.
+    fn indexed(&self, name: &Name) -> &KindSet
         ensures { (policy : PolicyParts) → AreKindsOf policy self.now → IsSetOf policy name.now result.now.words }
     {
         match self.sets.get(name) {
@@ -104,6 +119,44 @@ fn sets_of(
         )?;
     }
     Ok(sets)
+}
+
+// The sets again, by their names.
+fn named_sets(
+    alloc: Global,
+    policy: &PolicyParts,
+    sets: &HashMap<Name, KindSet>,
+) -> Result<NamedSets, Memory>
+    requires { AreSets policy.now policy.now.kinds policy.now.attributes (get bytes_eq sets.now) }
+    ensures { IfOk result (λ named. AreNamed policy.now named) }
+{
+    let mut named = NamedSets::new(alloc);
+    'kinds: for kind in policy.kinds.as_slice() {
+        add_set(alloc, &mut named, sets, &kind.name)?;
+    }
+    'attributes: for attribute in policy.attributes.as_slice() {
+        add_set(alloc, &mut named, sets, &attribute.name)?;
+    }
+    Ok(named)
+}
+
+// Adds the set of a name, where there is one.
+fn add_set(
+    alloc: Global,
+    named: &mut NamedSets,
+    sets: &HashMap<Name, KindSet>,
+    name: &Name,
+) -> Result<(), Memory>
+    ensures { OnOk result ((policy : PolicyParts) → AreSets policy policy.kinds policy.attributes (get bytes_eq sets.now)
+        → AreNamed policy named.old → AreNamed policy named.new) }
+{
+    match sets.get(name) {
+        None => Ok(()),
+        Some(set) => {
+            named.add(name.copy(alloc)?, *set)?;
+            Ok(())
+        }
+    }
 }
 
 // The declared types that a name means.

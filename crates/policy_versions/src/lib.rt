@@ -21,6 +21,7 @@ mod kind;
 mod kind_set;
 mod kinds;
 mod marks;
+mod named_sets;
 mod names;
 mod nevers;
 mod order;

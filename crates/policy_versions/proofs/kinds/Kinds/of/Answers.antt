@@ -13,6 +13,10 @@ returns c = record {
   apart = kinds_apart c.args.policy.now c.parts-parts.ensures.kept;
   places = rw (c.as_slice.ensures, c.parts-parts.ensures.parts) at c.in_ok-places.ensures;
   sets = rw c.parts-parts.ensures.parts at c.in_ok-sets.ensures;
+  named = rw c.parts-parts.ensures.parts at c.in_ok-named.ensures;
   every = c.every.ensures;
   none = c.none.ensures;
 }
+
+pub named_sets-requires : goal.named_sets-requires
+named_sets-requires c = c.in_ok-sets.ensures

@@ -1,4 +1,4 @@
-use Rattle.std.proofs.Common.{◌≡◌, ◌∙◌, ◌==◌, true, sym, ap, get_or, bit_and, arith}
+use Rattle.std.proofs.Common.{◌≡◌, ◌∙◌, ◌==◌, true, sym, arith}
 use Rattle.std.proofs.lemmas.Bool.Decides.{nat_tests}
 use Rattle.policy_versions.proofs.row.Row.meets.Goals as goal
 

@@ -1,4 +1,4 @@
-use Rattle.std.proofs.Common.{◌∙◌, sym, arith}
+use Rattle.std.proofs.Common.{arith}
 use Rattle.policy_versions.proofs.StepLemmas.{versions_next, versions_same}
 use Rattle.policy_versions.proofs.steps.Steps.of.Goals as goal
 use Rattle.policy_versions.proofs.steps.Steps.of.Goals.{then-version-eq0, else-version-eq0+else-not-gives_as}
