@@ -27,7 +27,8 @@ fn put_value(out: &mut String, value: &Value<'_>) -> Result<(), Memory> {
         Value::Text(text) => put_text(out, *text),
         Value::Numbers(numbers) => put_numbers(out, *numbers),
         Value::Shown(line) => put_shown(out, *line),
-        Value::By(line, _) => put_value(out, &Value::of_number(*line)),
+        Value::By(None, _) => put_all(out, &["null"]),
+        Value::By(Some(line), _) => put_number(out, u64::from(*line)),
     }
 }
 

@@ -22,8 +22,8 @@ run_to_end-requires-clause-known g c κs within =
     declared_known c.into_parts.result.policy (sids_of c.args.catalogue.now) (decides_of c.args.catalogue.now)
     (rw (← c.into_parts.ensures.value) at c.requires.judged.1) (rw (← c.into_parts.ensures.value) at c.requires.decides)
 
-pub write_ended-requires : goal.write_ended-requires
-write_ended-requires g c =
+pub write_ended-written-requires : goal.write_ended-written-requires
+write_ended-written-requires g c =
     let kept = rw (← c.into_parts.ensures.value) at c.into_parts.ensures.kept in
     record {
       few = rw c.in_ok-ended.ensures.ended.clients_are (few_clients c.into_parts.result kept);
@@ -33,9 +33,9 @@ write_ended-requires g c =
 pub returns-clause-writes : goal.returns-clause-writes
 returns-clause-writes g c =
     let d = decides_of c.args.catalogue.now in
-    threads_writes c.write_ended.result c.args.session c.into_parts.result (sids_of c.args.catalogue.now) d c.in_ok-ended.ended
-    (g.K.Sink.written c.args.sink.now) (g.K.Sink.written c.write_ended.new.sink) c.into_parts.ensures.value c.requires.decides c.in_ok-ended.ensures.ended
-    (subst (λ (contexts : List (ContextOf (List ℕ))). OnOk c.write_ended.result (Adds (g.K.Sink.written c.args.sink.now) (g.K.Sink.written c.write_ended.new.sink) (text_of contexts c.into_parts.result c.in_ok-ended.ended)))
-    c.sids-contexts.ensures (c.write_ended.ensures.ok d c.into_parts.result c.in_ok-ended.ensures.ended c.in_ok-ended.ensures.log))
-    (subst (λ (contexts : List (ContextOf (List ℕ))). OnErr c.write_ended.result (AddsFront (g.K.Sink.written c.args.sink.now) (g.K.Sink.written c.write_ended.new.sink) (text_of contexts c.into_parts.result c.in_ok-ended.ended)))
-    c.sids-contexts.ensures (c.write_ended.ensures.err d c.into_parts.result c.in_ok-ended.ensures.ended c.in_ok-ended.ensures.log))
+    threads_writes c.write_ended-written.result c.args.session c.into_parts.result (sids_of c.args.catalogue.now) d c.in_ok-ended.ended
+    (g.K.Sink.written c.args.sink.now) (g.K.Sink.written c.write_ended-written.new.sink) c.into_parts.ensures.value c.requires.decides c.in_ok-ended.ensures.ended
+    (subst (λ (contexts : List (ContextOf (List ℕ))). OnOk c.write_ended-written.result (Adds (g.K.Sink.written c.args.sink.now) (g.K.Sink.written c.write_ended-written.new.sink) (text_of contexts c.into_parts.result c.in_ok-ended.ended)))
+    c.sids-contexts.ensures (c.write_ended-written.ensures.ok d c.into_parts.result c.in_ok-ended.ensures.ended c.in_ok-ended.ensures.log))
+    (subst (λ (contexts : List (ContextOf (List ℕ))). OnErr c.write_ended-written.result (AddsFront (g.K.Sink.written c.args.sink.now) (g.K.Sink.written c.write_ended-written.new.sink) (text_of contexts c.into_parts.result c.in_ok-ended.ended)))
+    c.sids-contexts.ensures (c.write_ended-written.ensures.err d c.into_parts.result c.in_ok-ended.ensures.ended c.in_ok-ended.ensures.log))

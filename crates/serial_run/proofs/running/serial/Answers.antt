@@ -33,14 +33,14 @@ returns-in_err-run_lines-clause-cause g c =
     let front = printed_front g.K.Sink.written g.K.Sink.faults _ (λ stop want. want.1) c.in_ok-printing.printing c.args.sink.now c.run_lines.new.out _ c.in_err-run_lines.field-0.0 c.in_err-run_lines.ensures.stopped in
     stop_as (g.K.Sink.faults c.args.sink.now) (g.K.Sink.faults c.run_lines.new.out) c.in_err-run_lines.field-0.0 c.from_residual-in_err-run_lines.result c.from_residual-in_err-run_lines.ensures.1 front.cause
 
-pub write_end-requires-clause-log : goal.write_end-requires-clause-log
-write_end-requires-clause-log g c =
+pub write_end-written-requires-clause-log : goal.write_end-written-requires-clause-log
+write_end-written-requires-clause-log g c =
     let printed = printed_all g.K.Sink.written g.K.Sink.faults c.in_ok-printing.printing c.run_lines.new.recorder c.args.sink.now c.run_lines.new.out _ c.in_ok-run_lines.ensures.taken in
     let count : length c.in_ok-printing.printing.log ≡ length c.as_slice.result.now = ap length c.in_ok-printing.ensures.log ∙ length-replicate (length c.as_slice.result.now) _ in
     ap (λ (s : Setting). length s.clients.now) (printed.setting_is ∙ c.in_ok-printing.ensures.setting) ∙ sym (printed.gains.clients ∙ count)
 
-pub write_end-requires-clause-few : goal.write_end-requires-clause-few
-write_end-requires-clause-few g c =
+pub write_end-written-requires-clause-few : goal.write_end-written-requires-clause-few
+write_end-written-requires-clause-few g c =
     let is = c.in_ok-runner.ensures in
     let printed = printed_all g.K.Sink.written g.K.Sink.faults c.in_ok-printing.printing c.run_lines.new.recorder c.args.sink.now c.run_lines.new.out _ c.in_ok-run_lines.ensures.taken in
     let count : length c.in_ok-printing.printing.log ≡ length c.as_slice.result.now = ap length c.in_ok-printing.ensures.log ∙ length-replicate (length c.as_slice.result.now) _ in
@@ -63,7 +63,7 @@ returns-clause-ok g c =
     let whole = whole_text c.args.session (g.D.Decider.decides c.args.decider.now) c.args.contexts.now c.in_ok-printing.printing.setting c.run_lines.new.recorder.setting _ c.run_lines.new.self.state
     c.in_ok-printing.printing.log c.run_lines.new.recorder.log c.counts.result.0 c.counts.result.1 c.counts.result.2 setting shown below old printed.gains printed.setting_is c.counts.ensures.calls c.counts.ensures.denied c.counts.ensures.changes in
     rw whole
-    (on_ok c.write_end.result _ _ (λ last. adds_more (g.K.Sink.written c.args.sink.now) (g.K.Sink.written c.run_lines.new.out) (g.K.Sink.written c.write_end.new.sink) _ _ printed.adds last) c.write_end.ensures.ok)
+    (on_ok c.write_end-written.result _ _ (λ last. adds_more (g.K.Sink.written c.args.sink.now) (g.K.Sink.written c.run_lines.new.out) (g.K.Sink.written c.write_end-written.new.sink) _ _ printed.adds last) c.write_end-written.ensures.ok)
 
 pub returns-clause-err : goal.returns-clause-err
 returns-clause-err g c =
@@ -82,9 +82,9 @@ returns-clause-err g c =
     let whole = whole_text c.args.session (g.D.Decider.decides c.args.decider.now) c.args.contexts.now c.in_ok-printing.printing.setting c.run_lines.new.recorder.setting _ c.run_lines.new.self.state
     c.in_ok-printing.printing.log c.run_lines.new.recorder.log c.counts.result.0 c.counts.result.1 c.counts.result.2 setting shown below old printed.gains printed.setting_is c.counts.ensures.calls c.counts.ensures.denied c.counts.ensures.changes in
     rw whole
-    (on_err c.write_end.result _ _ (λ last. cut_last (g.K.Sink.written c.args.sink.now) (g.K.Sink.written c.run_lines.new.out) (g.K.Sink.written c.write_end.new.sink) _ _ printed.adds last) c.write_end.ensures.err)
+    (on_err c.write_end-written.result _ _ (λ last. cut_last (g.K.Sink.written c.args.sink.now) (g.K.Sink.written c.run_lines.new.out) (g.K.Sink.written c.write_end-written.new.sink) _ _ printed.adds last) c.write_end-written.ensures.err)
 
 pub returns-clause-cause : goal.returns-clause-cause
 returns-clause-cause g c =
     let printed = printed_all g.K.Sink.written g.K.Sink.faults c.in_ok-printing.printing c.run_lines.new.recorder c.args.sink.now c.run_lines.new.out _ c.in_ok-run_lines.ensures.taken in
-    rw printed.quiet at c.write_end.ensures.cause
+    rw printed.quiet at c.write_end-written.ensures.cause

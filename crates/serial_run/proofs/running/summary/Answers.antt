@@ -13,11 +13,11 @@ returns-clause-ok g c =
     let opened = c.in_ok-runner.field-0 in
     let below = c.in_ok-run_lines.ensures.state ∙ opened_below g.D.Decider.decides c.args.decider.now c.args.session opened opened.runner opened.lines.items c.in_ok-runner.ensures refl refl in
     let sum = summary_is c.args.session (g.D.Decider.decides c.args.decider.now) c.run_lines.new.self.state c.counts.result.0 c.counts.result.1 c.counts.result.2 below c.counts.ensures.calls c.counts.ensures.denied c.counts.ensures.changes in
-    rw (← sum) c.write_counts.ensures.ok
+    rw (← sum) c.write_counts-written.ensures.ok
 
 pub returns-clause-err : goal.returns-clause-err
 returns-clause-err g c =
     let opened = c.in_ok-runner.field-0 in
     let below = c.in_ok-run_lines.ensures.state ∙ opened_below g.D.Decider.decides c.args.decider.now c.args.session opened opened.runner opened.lines.items c.in_ok-runner.ensures refl refl in
     let sum = summary_is c.args.session (g.D.Decider.decides c.args.decider.now) c.run_lines.new.self.state c.counts.result.0 c.counts.result.1 c.counts.result.2 below c.counts.ensures.calls c.counts.ensures.denied c.counts.ensures.changes in
-    rw (← sum) c.write_counts.ensures.err
+    rw (← sum) c.write_counts-written.ensures.err
