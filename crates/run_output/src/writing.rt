@@ -11,6 +11,7 @@ use flask_io::{Put, Sink};
 pub struct WriteFault;
 
 /// Writes a line: offers it whole, and then the rest where the sink took a part.
+#[inline(always)]
 pub fn write_line<K: Sink>(sink: &mut K, line: &[u8]) -> Result<(), WriteFault>
     ensures ok { OnOk result (Adds (K.written sink.old) (K.written sink.new) line.now) }
     ensures err { OnErr result (AddsFront (K.written sink.old) (K.written sink.new) line.now) }

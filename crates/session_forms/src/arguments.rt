@@ -59,6 +59,7 @@ pub fn only_context<'a>(words: Words<'a>) -> Option<ContextOf<Word<'a>>>
 
 /// A path alone. It may be too long yet.
 #[tactic(auto, unfolding(crate::specs::Arguments::only_path))]
+#[inline(always)]
 pub fn only_path<'a>(words: Words<'a>) -> Option<Parts<'a>>
     ensures { result ≡ Arguments.only_path words.entry }
 {
@@ -86,6 +87,7 @@ pub fn two_numbers(mut words: Words<'_>) -> Option<(u64, u64)>
 
 /// A numeral and a word, and no more.
 #[tactic(auto, unfolding(crate::specs::Arguments::number_and_word))]
+#[inline(always)]
 pub fn number_and_word<'a>(mut words: Words<'a>) -> Option<(u64, Word<'a>)>
     ensures { result ≡ Arguments.number_and_word words.entry }
 {

@@ -102,6 +102,7 @@ impl<'a> Parts<'a> {
     }
 
     /// Whether each part would be a part of a path but for its length.
+    #[inline(always)]
     fn are_part_forms(&self) -> bool
         ensures { result ≡ list_all PathForms.is_part_form self.now }
     {

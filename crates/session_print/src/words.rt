@@ -55,6 +55,7 @@ fn put_parts(out: &mut Text, parts: &[Piece]) -> Result<(), Memory>
 }
 
 /// Puts the word of a manager.
+#[inline(always)]
 pub fn put_manager(out: &mut Text, manager: Manager) -> Result<(), Memory>
     ensures { OnOk result (out.new ≡ out.old ++ behind (Words.manager_word manager)) }
 {

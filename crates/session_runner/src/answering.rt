@@ -45,9 +45,10 @@ fn call<D: Decider>(
     })
 }
 
-/// Does what a line of a session of so many clients asks.
+/// Does what a line of a session of so many clients asks. `E` is whose run it is: each has a body of its own, so that the compiler puts it
+/// into the one loop that calls it.
 #[inline(always)]
-pub(crate) fn answer<R: Wait, D: Decider>(
+pub(crate) fn answer<R: Wait, D: Decider, E>(
     rt: &R,
     alloc: Global,
     managed: &mut SessionManagers<'_, D>,

@@ -95,9 +95,9 @@ impl<'d, D: Decider> Runner<'d, D> {
         })
     }
 
-    /// Does what a line asks. After `Memory` it answers nothing but `Memory`.
+    /// Does what a line asks, for the run of an `E`. After `Memory` it answers nothing but `Memory`.
     #[inline(always)]
-    fn answer<R: Wait>(&mut self, rt: &R, line: RunLine) -> Result<LineAnswer, Memory>
+    fn answer<R: Wait, E>(&mut self, rt: &R, line: RunLine) -> Result<LineAnswer, Memory>
         requires formed { IsRun (λ sid. IsTrue ((D.decides self.old.decider).known sid)) self.old.clients line.run }
         requires calls { self.old.state.calls + 1 < 2 ^ 64 }
         requires changes { self.old.state.changes + 1 < 2 ^ 64 }
@@ -111,14 +111,20 @@ impl<'d, D: Decider> Runner<'d, D> {
         if self.stopped {
             return Err(Memory);
         }
-        let answer = answering::answer(rt, self.alloc, &mut self.managed, self.clients, line);
+        let answer = answering::answer::<R, D, E>(
+            rt,
+            self.alloc,
+            &mut self.managed,
+            self.clients,
+            line,
+        );
         self.stopped = answer.is_err();
         answer
     }
 
-    /// Does what a line asks, and says who acted in it. After `Memory` it answers nothing but `Memory`.
+    /// Does what a line asks, for the run of an `E`, and says who acted in it. After `Memory` it answers nothing but `Memory`.
     #[inline(always)]
-    pub fn act<R: Wait>(&mut self, rt: &R, line: RunLine) -> Result<LineOutcome, Memory>
+    pub fn act<R: Wait, E>(&mut self, rt: &R, line: RunLine) -> Result<LineOutcome, Memory>
         requires formed { IsRun (λ sid. IsTrue ((D.decides self.old.decider).known sid)) self.old.clients line.run }
         requires calls { self.old.state.calls + 1 < 2 ^ 64 }
         requires changes { self.old.state.changes + 1 < 2 ^ 64 }
@@ -131,7 +137,7 @@ impl<'d, D: Decider> Runner<'d, D> {
     {
         let caller = self.caller_of(&line);
         let number = line.line;
-        let answer = self.answer(rt, line)?;
+        let answer = self.answer::<R, E>(rt, line)?;
         Ok(LineOutcome {
             line: number,
             answer,

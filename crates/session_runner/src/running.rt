@@ -31,7 +31,7 @@ impl<'d, D: Decider> Runner<'d, D> {
         ensures state { OnOk result (self.new.state ≡ Runs.state_below (D.decides self.old.decider) self.old.state lines.items) }
     {
         'lines: for line in lines {
-            let outcome = self.act(rt, line)?;
+            let outcome = self.act::<R, E>(rt, line)?;
             let asked = self.asked(outcome.caller);
             recorder.take(outcome, asked, out)?;
         }
