@@ -1,8 +1,9 @@
 """What all measurements share: their programs, built into bench/out, and the figures of repeated runs.
 
 The proved program of a measurement is a crate of its own, whose files stand in bench/NAME/proved with .txt behind their names,
-since the gate takes no source outside the crates that crates.txt names. It is built in a temporary copy of the repository. With
-no proofs built before, the copy proves the crates below first, which takes some minutes.
+since the gate takes no source outside the crates that crates.txt names. It is built in a temporary copy of the repository, by a gate of
+its own without wrong bodies: what the gate proved on this machine is taken as proved, and only the measured crate is proved anew. Where the
+gate did not run, the copy proves the crates below first, which takes minutes.
 """
 
 import datetime
@@ -44,7 +45,7 @@ class Programs:
             crate = self.copied_to(pathlib.Path(place))
             log = OUT / f"{self.crate}.log"
             with open(log, "w") as lines:
-                built = subprocess.run(["rt", "run"], cwd=crate, stdin=subprocess.DEVNULL, stdout=lines, stderr=lines)
+                built = subprocess.run(["rt", "ci"], cwd=place, stdin=subprocess.DEVNULL, stdout=lines, stderr=lines)
             if built.returncode != 0:
                 sys.exit(f"bench: no program was built; {log} says why")
             shutil.copy(crate / "out" / self.crate, self.proved)
@@ -53,7 +54,7 @@ class Programs:
         """The folder of the crate in a copy of what it needs."""
         names = needed_crates(self.line)
         for needed in names:
-            shutil.copytree(TOP / "crates" / needed, place / "crates" / needed)
+            shutil.copytree(TOP / "crates" / needed, place / "crates" / needed, ignore=shutil.ignore_patterns("out", "must-fail"))
         shutil.copy(TOP / "HANDLES", place)
         lines = (TOP / "crates.txt").read_text().splitlines(keepends=True)
         kept = [text for text in lines if text.split() and text.split()[0].rstrip(":") in names]

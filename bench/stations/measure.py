@@ -14,6 +14,7 @@ WORKS = (
     ("call", "a read through a station, in a held pass", 400_000),
     ("pass", "enter, read, leave", 400_000),
     ("check", "a check that the cache has", 4_000_000),
+    ("core_file", "a read of an open file by the core's own call", 400_000),
     ("file", "a read of an open file through a station, in a held pass", 400_000),
 )
 

@@ -422,6 +422,20 @@ fn file(rounds: u32) -> (u64, u64) {
     (thread_time() - before, sum)
 }
 
+fn core_file(rounds: u32) -> (u64, u64) {
+    let mut files = files();
+    files.call(0, &file_open(), 0, &mut |s, t| decided(0, s, t), &mut Vec::new());
+    let before = thread_time();
+    let mut sum = 0u64;
+    for _ in 0..rounds {
+        let mut asked = Vec::new();
+        let read = FileCall::Read { slot: 0, offset: 0, length: 16 };
+        sum += bytes_of(&hint::black_box(&mut files).call(0, &read, 0, &mut |s, t| decided(0, s, t), &mut asked));
+        hint::black_box(&asked);
+    }
+    (thread_time() - before, sum)
+}
+
 fn main() {
     let words: Vec<String> = env::args().skip(1).collect();
     let [work, rounds] = words.as_slice() else {
@@ -430,6 +444,7 @@ fn main() {
     let rounds: u32 = rounds.parse().unwrap();
     let (took, sum) = match work.as_str() {
         "core" => core(rounds),
+        "core_file" => core_file(rounds),
         "file" => file(rounds),
         _ => one(work, rounds),
     };
