@@ -10,7 +10,7 @@ static WINDOWS: &'static str =
     "Windows line ends: a carriage return stands before the line end; a line ends by byte 10 alone";
 
 /// The first words of SELinux lines that begin no line here.
-static FOREIGN: [&str; 24] = [
+static FOREIGN: [&str; 35] = [
     "allowxperm",
     "attribute_role",
     "bool",
@@ -19,22 +19,33 @@ static FOREIGN: [&str; 24] = [
     "constrain",
     "dominance",
     "expandattribute",
+    "fs_use_task",
+    "fs_use_trans",
+    "fs_use_xattr",
     "gen_require",
+    "genfscon",
     "if",
     "mlsconstrain",
     "module",
+    "netifcon",
+    "nodecon",
     "optional_policy",
     "permissive",
     "policy_module",
+    "portcon",
     "range_transition",
     "require",
     "role",
     "role_transition",
     "sid",
+    "type_change",
+    "type_member",
+    "type_transition",
     "typealias",
     "typeattribute",
-    "type_change",
-    "type_transition",
+    "typebounds",
+    "user",
+    "validatetrans",
 ];
 
 impl Scene<'_> {

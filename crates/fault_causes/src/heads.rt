@@ -2,6 +2,7 @@
 
 use crate::declared::Sought;
 use crate::forms::{begins_in, forms_in, part_at};
+use crate::misfits::has_capital;
 use crate::mistake::Piece::{Before, Here, Name, Names, Number, Said, Words};
 use crate::mistake::{Known, Mistake, Piece};
 use crate::places::Place;
@@ -19,9 +20,18 @@ impl Scene<'_> {
     }
 
     fn no_head(&self, of: &'static str) -> Mistake {
-        self.told(0, &[Said("'"), Here, Said("' begins no line of "), Name])
-            .with_name(of)
-            .with_known(Known::Heads)
+        let what: &'static [Piece] = if has_capital(self.word(0)) {
+            &[
+                Said("'"),
+                Here,
+                Said("' begins no line of "),
+                Name,
+                Said(": it has a capital letter, and first words have small letters alone"),
+            ]
+        } else {
+            &[Said("'"), Here, Said("' begins no line of "), Name]
+        };
+        self.told(0, what).with_name(of).with_known(Known::Heads)
     }
 
     /// A line in the policy that would stand in another part of a text, or in none.

@@ -53,30 +53,19 @@ impl Scene<'_> {
                 .with_name(part);
         }
         let Part { shape, what, .. } = part_named(part);
-        if is_of_names(shape) {
-            self.no_name(at, what).with_known(Known::Part(shape))
-        } else {
-            self.is_not(at, what)
+        match why_not(shape, self.word(at)) {
+            "" => self.is_not(at, what, shape),
+            why => self
+                .told(at, &[Said("'"), Here, Said("' has "), Name])
+                .with_name(why)
+                .with_known(known_of(shape)),
         }
     }
 
-    fn no_name(&self, at: usize, what: &'static str) -> Mistake {
-        if !has_capital(self.word(at)) {
-            return self.is_not(at, what);
-        }
-        self.told(
-            at,
-            &[
-                Said("'"),
-                Here,
-                Said("' has a capital letter: names have small letters alone"),
-            ],
-        )
-    }
-
-    fn is_not(&self, at: usize, what: &'static str) -> Mistake {
+    fn is_not(&self, at: usize, what: &'static str, shape: Shape) -> Mistake {
         self.told(at, &[Said("'"), Here, Said("' is not "), Name])
             .with_name(what)
+            .with_known(known_of(shape))
     }
 
     fn missing(&self, form: &'static str) -> Mistake {
@@ -147,14 +136,42 @@ fn misused(part: &str, word: &str) -> Option<&'static str> {
     None
 }
 
-fn is_of_names(shape: Shape) -> bool {
+/// What a word has that no word of a shape has, where that is known, and else no letters.
+fn why_not(shape: Shape, word: &str) -> &'static str {
     match shape {
-        Shape::Path | Shape::Data | Shape::Number(_, _) | Shape::Choice => false,
-        _ => true,
+        Shape::Path | Shape::Data | Shape::Choice => "",
+        Shape::Number(_, _) if word.len() > 10 && is_of_digits(word) => {
+            "more than 10 digits: a number has at most 10, with the zeros at its front"
+        }
+        Shape::Number(_, _) => "",
+        _ if word.contains(',') => "a comma: names are parted by spaces alone",
+        Shape::Context if word.split(':').nth(3).is_some() => {
+            "a level behind its type, as in SELinux: a context is USER:ROLE:TYPE here, three names"
+        }
+        _ if has_capital(word) => "a capital letter: names have small letters alone",
+        _ => "",
     }
 }
 
-fn has_capital(word: &str) -> bool {
+/// The names that a word of a shape may be.
+fn known_of(shape: Shape) -> Known {
+    match shape {
+        Shape::Path | Shape::Data | Shape::Number(_, _) | Shape::Choice => Known::Nothing,
+        _ => Known::Part(shape),
+    }
+}
+
+fn is_of_digits(word: &str) -> bool {
+    'bytes: for b in word.as_bytes() {
+        if !b.is_ascii_digit() {
+            return false;
+        }
+    }
+    true
+}
+
+/// Whether a word has a capital letter.
+pub(crate) fn has_capital(word: &str) -> bool {
     'bytes: for b in word.as_bytes() {
         if b.is_ascii_uppercase() {
             return true;

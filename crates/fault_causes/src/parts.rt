@@ -65,7 +65,7 @@ static PARTS: [Part; 26] = [
     Part {
         name: "PERM",
         shape: Shape::Permission,
-        what: "permissions of the class, or * alone",
+        what: "a permission of the class, or * alone",
     },
     Part {
         name: "CLIENT",

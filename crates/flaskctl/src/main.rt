@@ -4,15 +4,14 @@
 use control_words::{Request, program, request_of};
 use flask_io::ReaderSource;
 use flaskctl_run::{Report, Stop, answer, read_input};
+use std::fs;
+use std::io::{self, ErrorKind};
 use std::process::ExitCode;
-use std::{fs, io};
 
 fn main(rt: HostRuntime) -> io::Result<ExitCode> {
-    let Ok(words) = std::env::args(&rt) else {
-        return said(&rt, &Stop::Memory);
-    };
-    let Ok(words) = words.collect::<Vec<String>>(rt.alloc()) else {
-        return said(&rt, &Stop::Memory);
+    let words = match texts(&rt) {
+        Ok(words) => words,
+        Err(stop) => return said(&rt, &stop),
     };
     let Ok(program) = program(rt.alloc()) else {
         return said(&rt, &Stop::Memory);
@@ -20,8 +19,11 @@ fn main(rt: HostRuntime) -> io::Result<ExitCode> {
     let matches = match program.try_get_matches_from(words.as_slice()) {
         Ok(matches) => matches,
         Err(error) => {
-            error.print(&rt)?;
-            return Ok(ExitCode::from(error.exit_code() as u8));
+            let status = match error.print(&rt) {
+                Ok(()) => error.exit_code() as u8,
+                Err(_) => 5,
+            };
+            return Ok(ExitCode::from(status));
         }
     };
     let Some(request) = request_of(&matches) else {
@@ -34,6 +36,15 @@ fn main(rt: HostRuntime) -> io::Result<ExitCode> {
     match answer(&rt, rt.alloc(), bytes.as_slice(), &request) {
         Ok(report) => written(&rt, &report),
         Err(stop) => said(&rt, &stop),
+    }
+}
+
+/// The words of the command, with the program's own name. A word that is not UTF-8 is none of a command.
+fn texts(rt: &HostRuntime) -> Result<Vec<String>, Stop> {
+    match std::env::args(rt) {
+        Ok(args) => args.collect(rt.alloc()).map_err(|_| Stop::Memory),
+        Err(e) if e.kind() == ErrorKind::OutOfMemory => Err(Stop::Memory),
+        Err(_) => Err(Stop::NoWord),
     }
 }
 

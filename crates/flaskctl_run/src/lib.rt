@@ -20,6 +20,7 @@ mod show;
 mod source;
 mod stop;
 mod text;
+mod unasked;
 mod values;
 mod why;
 mod wording;

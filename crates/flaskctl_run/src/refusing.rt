@@ -83,7 +83,7 @@ fn broken(alloc: Global, source: Source<'_>, breach: &Breach) -> Result<String, 
     )
 }
 
-/// Puts that there are more contexts than can be numbered, with each line that leads to others than the declared ones.
+/// Puts that there are more contexts than can be numbered, with each line that gives a type to labels or members.
 fn put_too_many(alloc: Global, source: Source<'_>, out: &mut Report) -> Result<(), Memory> {
     let parts = source.policy.parts();
     let cause = sentence(
@@ -91,7 +91,9 @@ fn put_too_many(alloc: Global, source: Source<'_>, out: &mut Report) -> Result<(
         &[
             Value::Text("the policy leads to more than 4095 contexts: "),
             Value::Number(parts.contexts.len() as u64),
-            Value::Text(" of them are declared, and the lines below lead to the others"),
+            Value::Text(
+                " of them are declared, and a label or a member joins the user of one of them with the type of another, or with a type that a line below gives",
+            ),
         ],
     )?;
     put_finding(&Finding::new("contexts", cause.as_str()), out)?;

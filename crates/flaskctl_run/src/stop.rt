@@ -8,6 +8,8 @@ use std::alloc::{AllocError, AllocFailed};
 pub enum Stop {
     /// The words ask for what the policy has not: what is said of it.
     Usage(String),
+    /// A word of the command is not UTF-8.
+    NoWord,
     /// The text is no policy and no session: its first fault, explained.
     Refused(String),
     ReadFault,
@@ -37,7 +39,7 @@ impl Stop {
     /// The exit status: 2 for words, 3 for a text that is refused, and else what cannot be read.
     pub fn code(&self) -> u8 {
         match self {
-            Stop::Usage(_) => 2,
+            Stop::Usage(_) | Stop::NoWord => 2,
             Stop::Refused(_) => 3,
             Stop::ReadFault => 4,
             Stop::TooLarge => 6,
@@ -50,9 +52,10 @@ impl Stop {
         match self {
             Stop::Usage(text) => text.as_str(),
             Stop::Refused(text) => text.as_str(),
+            Stop::NoWord => "a word of the command is not UTF-8",
             Stop::ReadFault => "the input cannot be read",
             Stop::TooLarge => "the input is larger than 4194304 bytes",
-            Stop::Memory => "memory",
+            Stop::Memory => "the memory ran out",
         }
     }
 }

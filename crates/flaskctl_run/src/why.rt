@@ -2,10 +2,11 @@
 
 use crate::calls::no_call;
 use crate::checking::check;
-use crate::report::{Form, Report};
+use crate::report::Report;
 use crate::session::read_session;
 use crate::source::Source;
 use crate::stop::Stop;
+use crate::unasked::put_unasked;
 use crate::values::Value;
 use access_vectors::{Asked, class_name, perm_name};
 use control_words::WhyWords;
@@ -13,7 +14,7 @@ use fault_causes::{joined, text_of};
 use flask_sid::{Memory, Sid, SidTable, Word};
 use policy_answers::{allowing_versions, decision_on};
 use policy_versions::compile;
-use session_questions::{LineQuestions, LineRun, run_session};
+use session_questions::{LineAnswer, LineQuestions, LineRun, run_session};
 use std::alloc::Global;
 use std::sync::Wait;
 use text_lines::numeral;
@@ -40,7 +41,7 @@ pub(crate) fn why<R: Wait>(
         return check(alloc, bytes, out);
     };
     let run = run_session(rt, alloc, session.into_parts(), &catalogue)?;
-    let Some(questions) = questions_of(run.lines.as_slice(), number) else {
+    let Some((answer, questions)) = call_of(run.lines.as_slice(), number) else {
         return Err(Stop::Usage(no_call(alloc, bytes, run.lines.as_slice(), number)?));
     };
     let judged = Judged {
@@ -51,20 +52,25 @@ pub(crate) fn why<R: Wait>(
         sids: catalogue.sids(),
         version: questions.version,
     };
-    Ok(put_questions(alloc, judged, questions.asked.as_slice(), out)?)
+    let asked = questions.asked.as_slice();
+    put_questions(alloc, judged, asked, out)?;
+    if asked.is_empty() {
+        put_unasked(alloc, judged.sids, answer, out)?;
+    }
+    Ok(())
 }
 
-/// What the line of a number asked, where it is a client's call.
-fn questions_of(runs: &[LineRun], number: u32) -> Option<&LineQuestions> {
+/// What the line of a number came to, and what it asked, where it is a client's call.
+fn call_of(runs: &[LineRun], number: u32) -> Option<(&LineAnswer, &LineQuestions)> {
     'runs: for run in runs {
         if run.line == number {
-            return run.questions.as_ref();
+            return Some((&run.answer, run.questions.as_ref()?));
         }
     }
     None
 }
 
-/// Puts the questions in words, in the order in which they were asked: the status is 1 where one was denied.
+/// Puts the questions in words, in the order in which they were asked, and begins notes: the status is 1 where one was denied.
 fn put_questions(
     alloc: Global,
     judged: Judged<'_>,
@@ -72,13 +78,10 @@ fn put_questions(
     out: &mut Report,
 ) -> Result<(), Memory> {
     out.begin(u8::from(is_denied(asked)))?;
-    if let (Form::Lines, true) = (out.form, asked.is_empty()) {
-        return out.put(&[Value::Text("the call asked nothing")], &[]);
-    }
     'questions: for question in asked {
         put_question(alloc, judged, question, out)?;
     }
-    Ok(())
+    out.begin_notes()
 }
 
 /// Whether one of these questions was denied.

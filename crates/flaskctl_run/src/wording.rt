@@ -82,6 +82,19 @@ fn put_client(
     )
 }
 
+/// Puts the reply of a line that is a client's call, behind a space, and nothing of another line.
+pub(crate) fn put_reply_of(
+    alloc: Global,
+    contexts: &SidTable,
+    answer: &LineAnswer,
+    out: &mut String,
+) -> Result<(), Memory> {
+    match answer {
+        LineAnswer::Replied { got, .. } => put_reply(alloc, contexts, got, out),
+        _ => Ok(()),
+    }
+}
+
 /// Puts a reply, or that there is none, behind a space.
 fn put_reply(
     alloc: Global,
