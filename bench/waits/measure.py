@@ -12,6 +12,8 @@ history's memory is moved as it grows, within some call's turn, which the longes
 
 What a change itself keeps from callers is told apart: the processor time of its three turns on one thread, with no callers and all that they touch
 near. About so long a call is kept at most by one change where each thread keeps its processor, since the administrator has one turn at a time.
+
+The plain program beside it has the same words and steps, the same history, and its board with the places of each pair.
 """
 
 import sys
@@ -84,14 +86,16 @@ def alone(program, runs):
 
 
 def measure(programs, asked):
+    both = (("proved", programs.proved), ("plain Rust", programs.plain))
     print("Microseconds of the clock, of all runs together:\n")
-    timing.head("what was timed", "pieces", "half below", "99.9 in 100 below", "99.99 in 100 below", "the longest")
+    timing.head("what was timed", "program", "pieces", "half below", "99.9 in 100 below", "99.99 in 100 below", "the longest")
     for callers, most in WORKS:
-        reads, changes = waits(programs.proved, callers, most, asked.runs)
         beside = "beside changes" if most else "with no change"
-        timing.row(f"calls of {callers}, {beside}", sum(reads[1]), *cells(reads))
-        if most:
-            timing.row(f"changes beside calls of {callers}", sum(changes[1]), *cells(changes))
+        found = [(name, waits(program, callers, most, asked.runs)) for name, program in both]
+        for name, (reads, _) in found:
+            timing.row(f"calls of {callers}, {beside}", name, sum(reads[1]), *cells(reads))
+        for name, (_, changes) in found if most else ():
+            timing.row(f"changes beside calls of {callers}", name, sum(changes[1]), *cells(changes))
     print("\nMicroseconds of a processor for a change's three turns on one thread, in the best run / the median run: ", end="")
-    print(timing.shown(alone(programs.proved, asked.runs), unit=1000, digits=2))
+    print(", ".join(f"{name} {timing.shown(alone(program, asked.runs), unit=1000, digits=2)}" for name, program in both))
     print(f"\nload after: {timing.load()}\n")

@@ -6,6 +6,7 @@ ghost use Rattle.std.specs.Prelude.{◌<◌};
 use access_vectors::perms::{FILE_READ, FILE_WRITE};
 use access_vectors::{Asked, Perm};
 use example_board::{BoardCall, BoardReply};
+use flask_sid::Sid;
 use manager_history::Entry;
 use std::alloc::{AllocError, Global};
 
@@ -88,14 +89,35 @@ fn slot_of(call: &BoardCall) -> u8 {
     }
 }
 
-/// Whether questions were answered as a version answers them.
-fn are_honest(asked: &[Asked], version: u8) -> bool {
-    for question in asked {
-        if question.yes != allows(version, question.perm) {
-            return false;
+/// The plain board's question about a permission, with a version's answer: a client and the board have one identifier.
+fn question_of(perm: Perm, version: u8) -> Asked {
+    let s = Sid::of(1).unwrap();
+    Asked {
+        s,
+        t: s,
+        perm,
+        yes: allows(version, perm),
+    }
+}
+
+/// Whether these are the plain board's questions about a mode: one for each permission of it, in order, up to the first no, and no other.
+fn are_plain(asked: &[Asked], mode: u16, version: u8) -> bool {
+    let mut rest = asked;
+    for perm in &[FILE_READ, FILE_WRITE] {
+        if has(mode, *perm) {
+            let [question, others @ ..] = rest else {
+                return false;
+            };
+            if *question != question_of(*perm, version) {
+                return false;
+            }
+            rest = others;
+            if !question.yes {
+                break;
+            }
         }
     }
-    true
+    rest.is_empty()
 }
 
 impl Plain {
@@ -139,6 +161,20 @@ impl Plain {
         BoardReply::Done
     }
 
+    /// The mode that a client's call asks about: of an opening its own, where the slot is free; of a use its permission, where the slot's mode
+    /// has it.
+    fn asks(&self, client: usize, call: &BoardCall) -> u16
+        requires { client < 2 }
+    {
+        let held = self.modes[client];
+        match *call {
+            BoardCall::Open { mode, .. } if held == 0 => mode.bits(),
+            BoardCall::Read { .. } => held & 1,
+            BoardCall::Post { .. } => held & 2,
+            _ => 0,
+        }
+    }
+
     /// The plain reply to a client's call under a number and its version.
     fn reply(&mut self, client: usize, call: &BoardCall, under: (u32, u8)) -> BoardReply
         requires { client < 2 }
@@ -161,7 +197,7 @@ impl Plain {
     }
 
     /// Whether an operation is lawful here: it is its client's next one, through slot 0, under a number that is not below the settled one,
-    /// with the questions' answers and the reply of the plain board.
+    /// with the questions, their answers and the reply of the plain board.
     fn does(&mut self, done: Done, call: &BoardCall, asked: &[Asked], said: &BoardReply) -> bool {
         let Done {
             caller,
@@ -183,8 +219,9 @@ impl Plain {
         let Some(version) = self.version(number) else {
             return false;
         };
+        let mode = self.asks(client, call);
         let plain = self.reply(client, call, (number, version));
-        are_honest(asked, version) && plain == *said
+        are_plain(asked, mode, version) && plain == *said
     }
 
     /// The version of a policy number, if there was a notice of it.

@@ -45,12 +45,16 @@ fn limits_of_a_station(rt: HostRuntime) {
         (Step::Leave, Said::Left),
         (Step::Enter, Said::Entered),
         (Step::Leave, Said::Left),
+        (Step::Enter, Said::Entered),
+        (Step::Leave, Said::Left),
         (Step::Enter, Said::Spent),
         (Step::Notify(1), Said::Notified(Ok(1))),
         (Step::Acknowledge, Said::done(1)),
-        (Step::Notify(0), Said::Notified(Err(NotifyFault::Spent))),
+        (Step::Notify(0), Said::Notified(Ok(2))),
+        (Step::Acknowledge, Said::done(2)),
+        (Step::Notify(1), Said::Notified(Err(NotifyFault::Spent))),
     ];
-    let _asked = at_one_seat(&rt, rt.alloc(), 2, 1, &steps);
+    let _asked = at_one_seat(&rt, rt.alloc(), 3, 2, &steps);
 }
 
 #[test]

@@ -1,7 +1,9 @@
 //! The tests.
 
-use access_vectors::Questions;
+use access_vectors::perms::{FILE_READ, FILE_WRITE};
+use access_vectors::{Asked, Perm, Questions, Vector};
 use example_board::{BoardCall, BoardReply};
+use flask_sid::Sid;
 use manager_history::Entry;
 use station_rounds::{
     Pace, Script, Versions, Work, judged, opened, run_round, seated, work, work_beside,
@@ -106,5 +108,97 @@ fn the_judge_refuses_what_is_not_lawful(rt: HostRuntime) -> Result<(), Fail> {
     assert!(rt; judged(alloc, twice.as_slice())?.is_none());
     let unnoticed = vec![in alloc; Entry::Ack { number: 1 }]?;
     assert!(rt; judged(alloc, unnoticed.as_slice())?.is_none());
+    Ok(())
+}
+
+/// A question about a permission that client 0 has on a target, or has not.
+fn question(t: u16, perm: Perm, yes: bool) -> Result<Asked, Fail> {
+    let s = Sid::of(1).ok_or("no identifier")?;
+    let t = Sid::of(t).ok_or("no identifier")?;
+    Ok(Asked { s, t, perm, yes })
+}
+
+/// Whether the judge takes it that client 0 opens its slot for reading and writing under a number, with these questions and this reply, where
+/// version 1 is pending as number 1.
+fn is_taken(alloc: Global, number: u32, asked: &[Asked], reply: BoardReply) -> Result<bool, Fail> {
+    let mut questions = Questions::new(alloc);
+    for question in asked {
+        questions.add(*question).ok().ok_or("memory")?;
+    }
+    let notice = Entry::Notice {
+        number: 1,
+        version: 1,
+    };
+    let opens = Entry::Op {
+        caller: 0,
+        mark: 0,
+        call: BoardCall::Open {
+            slot: 0,
+            mode: Vector::of(3),
+        },
+        number,
+        asked: questions,
+        reply,
+    };
+    let history = vec![in alloc; notice, opens]?;
+    Ok(judged(alloc, history.as_slice())?.is_some())
+}
+
+#[test]
+fn the_judge_compares_replies_and_questions(rt: HostRuntime) -> Result<(), Fail> {
+    let alloc = rt.alloc();
+    let done = BoardReply::Done;
+    let read = question(1, FILE_READ, true)?;
+    let write = question(1, FILE_WRITE, true)?;
+    assert!(rt; is_taken(alloc, 0, &[read, write], done)?);
+    assert!(rt;
+        !is_taken(alloc, 0, &[read, write], BoardReply::SlotUsed)?,
+        "another reply"
+    );
+    assert!(rt;
+        !is_taken(alloc, 0, &[read], done)?,
+        "a question is missing"
+    );
+    assert!(rt; !is_taken(alloc, 0, &[], done)?, "all are missing");
+    assert!(rt;
+        !is_taken(alloc, 0, &[read, write, write], done)?,
+        "one too many"
+    );
+    assert!(rt;
+        !is_taken(alloc, 0, &[write, read], done)?,
+        "in another order"
+    );
+    let no = question(1, FILE_WRITE, false)?;
+    assert!(rt; !is_taken(alloc, 0, &[read, no], done)?, "another answer");
+    let foreign = question(2, FILE_WRITE, true)?;
+    assert!(rt;
+        !is_taken(alloc, 0, &[read, foreign], done)?,
+        "of another target"
+    );
+    Ok(())
+}
+
+#[test]
+fn the_judge_compares_questions_up_to_the_first_no(rt: HostRuntime) -> Result<(), Fail> {
+    let alloc = rt.alloc();
+    let denied = BoardReply::Denied {
+        perm: FILE_READ,
+        policy: 1,
+    };
+    let no = question(1, FILE_READ, false)?;
+    let write = question(1, FILE_WRITE, true)?;
+    assert!(rt; is_taken(alloc, 1, &[no], denied)?);
+    assert!(rt;
+        !is_taken(alloc, 1, &[no, write], denied)?,
+        "asked after a no"
+    );
+    assert!(rt;
+        !is_taken(alloc, 1, &[no], BoardReply::Done)?,
+        "done in place of denied"
+    );
+    assert!(rt;
+        !is_taken(alloc, 0, &[no], denied)?,
+        "denied under number 0"
+    );
     Ok(())
 }
