@@ -54,7 +54,10 @@ pub(crate) fn put_unasked(
     let mut words = String::new(alloc);
     put_reply_of(alloc, contexts, answer, &mut words)?;
     let answer = words.as_str().trim();
-    let cause = meaning_of(answer);
+    put_answer(answer, meaning_of(answer), out)
+}
+
+fn put_answer<'t>(answer: &'t str, cause: &'t str, out: &mut Report) -> Result<(), Memory> {
     out.put(
         &[
             Value::Text("the call asked nothing; its answer is "),
