@@ -2,7 +2,7 @@
 //! ticket words, 512 cache rows in one table, and a boxed manager with its history that the holder of the turn takes out. The manager is
 //! a board, or files of which the one file is opened by its name and read.
 //!
-//! `plain_stations WORK ROUNDS` prints the nanoseconds of a processor, and a sum that tells the work was done.
+//! `plain_stations WORK ROUNDS` prints the nanoseconds of all processors together, and a sum that tells the work was done.
 use std::cell::{Cell, UnsafeCell};
 use std::sync::atomic::{AtomicU64, Ordering::SeqCst};
 use std::{env, hint, thread};
@@ -397,6 +397,68 @@ fn one(work: &str, rounds: u32) -> (u64, u64) {
     (thread_time() - before, sum)
 }
 
+/// The work of clients, each in a thread of its own, which begin together: nanoseconds of all of them, and their sums.
+fn beside(threads: usize, work: impl Fn(usize, &dyn Fn()) -> (u64, u64) + Sync) -> (u64, u64) {
+    let ready = AtomicU64::new(0);
+    let meet = || {
+        ready.fetch_add(1, SeqCst);
+        while ready.load(SeqCst) < threads as u64 {
+            hint::spin_loop();
+        }
+    };
+    let run = |number: usize| work(number, &meet);
+    thread::scope(|scope| {
+        let run = &run;
+        let others: Vec<_> = (1..threads).map(|number| scope.spawn(move || run(number))).collect();
+        let first = run(0);
+        others.into_iter().map(|other| other.join().unwrap()).fold(first, |(a, b), (c, d)| (a + c, b + d))
+    })
+}
+
+/// Reads of four clients at one board.
+fn four_at_one(enters: bool, rounds: u32) -> (u64, u64) {
+    let station = Station::new(board());
+    beside(4, |number, meet| {
+        let mut seat = seat(number);
+        prepared(&station, &mut seat);
+        let read = Call::Read { slot: 0 };
+        meet();
+        let before = thread_time();
+        let mut sum = 0u64;
+        if enters {
+            station.leave(&mut seat);
+            for _ in 0..rounds {
+                station.enter(&mut seat);
+                sum += sum_of(station.call(&seat, 0, read));
+                station.leave(&mut seat);
+            }
+        } else {
+            (0..rounds).for_each(|_| sum += sum_of(station.call(&seat, 0, read)));
+        }
+        (thread_time() - before, sum)
+    })
+}
+
+/// Reads at three boards in turn.
+fn at_three(threads: usize, rounds: u32) -> (u64, u64) {
+    let stations = [Station::new(board()), Station::new(board()), Station::new(board())];
+    beside(threads, |number, meet| {
+        let mut seats = [seat(number), seat(number), seat(number)];
+        for (station, seat) in stations.iter().zip(&mut seats) {
+            prepared(station, seat);
+        }
+        meet();
+        let before = thread_time();
+        let mut sum = 0u64;
+        for _ in 0..rounds {
+            for (station, seat) in stations.iter().zip(&seats) {
+                sum += sum_of(station.call(seat, 0, Call::Read { slot: 0 }));
+            }
+        }
+        (thread_time() - before, sum)
+    })
+}
+
 fn bytes_of(reply: &FileReply) -> u64 {
     match reply {
         FileReply::Bytes(bytes) => bytes.len() as u64,
@@ -446,6 +508,10 @@ fn main() {
         "core" => core(rounds),
         "core_file" => core_file(rounds),
         "file" => file(rounds),
+        "call4" => four_at_one(false, rounds),
+        "pass4" => four_at_one(true, rounds),
+        "three" => at_three(1, rounds),
+        "three4" => at_three(4, rounds),
         _ => one(work, rounds),
     };
     println!("{took} {sum}");
