@@ -3,7 +3,10 @@
 //! a board, or files of which the one file is opened by its name and read.
 //!
 //! `plain_stations WORK ROUNDS` prints the nanoseconds of all processors together, and a sum that tells the work was done.
-use std::cell::{Cell, UnsafeCell};
+#[path = "../plain_gate.rs"]
+mod plain_gate;
+
+use plain_gate::{Gate, Seat};
 use std::sync::atomic::{AtomicU64, Ordering::SeqCst};
 use std::{env, hint, thread};
 
@@ -218,103 +221,19 @@ struct Keeper<M: Manager> {
     history: Vec<Entry<M>>,
 }
 
-struct Station<M: Manager> {
-    words: Box<[AtomicU64]>,
-    slot: UnsafeCell<Option<Box<Keeper<M>>>>,
-}
-
-// The slot is touched by the holder of the turn alone.
-unsafe impl<M: Manager> Sync for Station<M> {}
-
-struct Seat {
-    number: usize,
-    quota: u32,
-    pass: Option<(u32, u8)>,
-}
-
-struct Backoff {
-    step: Cell<u32>,
-}
-
-impl Backoff {
-    fn snooze(&self) {
-        let step = self.step.get();
-        if step <= 6 {
-            for _ in 0..1u32 << step {
-                hint::spin_loop();
-            }
-        } else {
-            thread::yield_now();
-        }
-        if step <= 10 {
-            self.step.set(step + 1);
-        }
-    }
-}
-
-fn row_word(number: u32, s: u16, t: u16, class: u8, vector: u16) -> u64 {
-    u64::from(number) << 44 | u64::from(s) << 32 | u64::from(t) << 20 | u64::from(class) << 16 | u64::from(vector)
-}
-
-fn row_place(s: u16, t: u16, class: u8) -> usize {
-    (31 * usize::from(s) + 7 * usize::from(t) + usize::from(class)) % 512
-}
+/// A manager with its history at a gate.
+type Station<M> = Gate<Keeper<M>>;
 
 impl<M: Manager> Station<M> {
     fn new(manager: M) -> Station<M> {
-        let keeper = Keeper { manager, history: Vec::new() };
-        Station { words: (0..517).map(|_| AtomicU64::new(0)).collect(), slot: UnsafeCell::new(Some(Box::new(keeper))) }
-    }
-
-    fn enter(&self, seat: &mut Seat) {
-        if seat.quota == 0 {
-            return;
-        }
-        let found = self.words[0].fetch_add(1, SeqCst);
-        seat.quota -= 1;
-        seat.pass = Some(((found >> 44) as u32, (found >> 36) as u8));
-    }
-
-    fn leave(&self, seat: &mut Seat) {
-        if let Some((number, _)) = seat.pass.take() {
-            self.words[1 + (number % 2) as usize].fetch_add(1, SeqCst);
-        }
-    }
-
-    fn check(&self, pass: (u32, u8), s: u16, t: u16, class: u8) -> u16 {
-        let (number, version) = pass;
-        let row = &self.words[5 + row_place(s, t, class)];
-        let found = row.load(SeqCst);
-        let vector = found as u16;
-        if found == row_word(number, s, t, class, vector) {
-            return vector;
-        }
-        let vector = decided(version, s, t);
-        row.swap(row_word(number, s, t, class, vector), SeqCst);
-        vector
-    }
-
-    fn take(&self) -> Box<Keeper<M>> {
-        let ticket = self.words[3].fetch_add(1, SeqCst);
-        let backoff = Backoff { step: Cell::new(0) };
-        while self.words[4].load(SeqCst) != ticket {
-            backoff.snooze();
-        }
-        let slot = unsafe { &mut *self.slot.get() };
-        slot.take().unwrap()
-    }
-
-    fn give(&self, value: Box<Keeper<M>>) {
-        let slot = unsafe { &mut *self.slot.get() };
-        *slot = Some(value);
-        self.words[4].fetch_add(1, SeqCst);
+        Gate::of(Keeper { manager, history: Vec::new() })
     }
 
     fn call(&self, seat: &Seat, mark: u32, call: M::Call) -> Option<M::Reply> {
         let pass = seat.pass?;
         let mut keeper = self.take();
         let mut asked = Vec::new();
-        let reply = keeper.manager.call(seat.number, &call, pass.0, &mut |s, t| self.check(pass, s, t, 0), &mut asked);
+        let reply = keeper.manager.call(seat.number, &call, pass.0, &mut |s, t| self.check(pass, (s, t, 0), decided), &mut asked);
         keeper.history.push(Entry::Op { _caller: seat.number as u8, _mark: mark, _call: call, _number: pass.0, _asked: asked, _reply: reply.clone() });
         self.give(keeper);
         Some(reply)
@@ -389,7 +308,7 @@ fn one(work: &str, rounds: u32) -> (u64, u64) {
         _ => {
             for _ in 0..rounds {
                 if let Some(pass) = seat.pass {
-                    sum += u64::from(station.check(pass, LABEL, LABEL, 0));
+                    sum += u64::from(station.check(pass, (LABEL, LABEL, 0), decided));
                 }
             }
         }
