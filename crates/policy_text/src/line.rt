@@ -11,14 +11,14 @@ use crate::form::{Decision, Form, line_form, pattern_form};
 use crate::rules::{decided_read, labelled_read, plain_read, version_read};
 use flask_sid::Word;
 use std::alloc::Global;
-use text_lines::{FaultKind, Refusal, Words, line_words};
+use text_lines::{FaultKind, Line, Refusal, Words, line_words};
 
 /// Adds what a line says to what the lines above it say.
 #[tactic(auto, unfolding(crate::specs::Grammar::line_read))]
 pub(crate) fn line_read<'a>(
     alloc: Global,
     number: u32,
-    line: &'a [u8],
+    line: &Line<'a>,
     above: &mut Option<Draft<'a>>,
 ) -> Result<(), Refusal>
     ensures said { Leaves result above.new (Grammar.line_read number line.now above.old) }

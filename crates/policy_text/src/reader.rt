@@ -14,7 +14,7 @@ use crate::line::line_read;
 use policy_model::{PolicyParts, PolicyText};
 use std::alloc::Global;
 use std::marker::Model;
-use text_lines::{FaultKind, Refusal, TextFault, first_line};
+use text_lines::{FaultKind, Line, Lines, Refusal, TextFault};
 
 /// Reads a policy text that is handed over line after line, as by the reader of a longer text whose front a policy
 /// is. Contracts see the number of the next line and what the lines above it say.
@@ -55,7 +55,7 @@ impl<'a> PolicyReader<'a> {
     /// Reads one line more, or answers that line's fault, with which the text is refused. A reader that has refused a line
     /// has read nothing any more.
     #[tactic(auto, unfolding(crate::specs::Reading::read_on))]
-    pub fn read_line(&mut self, alloc: Global, line: &'a [u8]) -> Result<(), TextFault>
+    pub fn read_line(&mut self, alloc: Global, line: &Line<'a>) -> Result<(), TextFault>
         ensures read { LeavesText result self.new (read_on self.old line.now) }
         ensures refused { OnErr result (self.new.above ≡ None) }
     {
@@ -132,10 +132,10 @@ pub fn read(alloc: Global, bytes: &[u8]) -> Result<PolicyText, TextFault>
     ensures { GivesText result (Grammar.policy_of bytes.now) }
 {
     let mut reader = PolicyReader::new();
-    let mut rest = bytes;
-    'lines: while let Some((line, below)) = first_line(rest) {
-        match reader.read_line(alloc, line) {
-            Ok(()) => rest = below,
+    let mut lines = Lines::of(bytes);
+    'lines: while let Some(line) = lines.next() {
+        match reader.read_line(alloc, &line) {
+            Ok(()) => {}
             Err(fault) => return Err(fault),
         }
     }

@@ -208,9 +208,28 @@ fn a_day_in_another_order(rt: HostRuntime) -> Result<(), Fail> {
     let order = Order::new(&holds, 61);
     let (status, sink) = run(&rt, rt.alloc(), DAY, &order);
     assert_eq!(rt; status, Status::Ok);
-    assert!(rt; !sink.bytes().is_empty());
     assert!(rt; order.was_kept(54));
+    // In the history of files the held call stands behind the one that it waited for, and 40 of the lines that run are calls.
+    let before = place_of_line(sink.bytes(), b"69 smtpd file ");
+    let held = place_of_line(sink.bytes(), b"61 httpd file ");
+    assert!(rt; before.is_some());
+    assert!(rt; held.is_some());
+    assert!(rt; before.unwrap_or(0) < held.unwrap_or(0));
+    assert_eq!(rt; numbered_lines(sink.bytes()), 40);
     Ok(())
+}
+
+/// How many lines stand above the first that begins with these bytes, if there is one.
+fn place_of_line(text: &[u8], front: &[u8]) -> Option<usize> {
+    text.split(|b| *b == b'\n')
+        .position(|line| line.starts_with(front))
+}
+
+/// How many lines begin with a digit, as those of calls do.
+fn numbered_lines(text: &[u8]) -> usize {
+    text.split(|b| *b == b'\n')
+        .filter(|line| line.first().is_some_and(|b| b.is_ascii_digit()))
+        .count()
 }
 
 /// A day of a web server, a mail server, a user and a backup, under three versions of a policy: lines 61 to 114 run.

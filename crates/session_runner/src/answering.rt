@@ -18,7 +18,7 @@ use std::sync::Wait;
 
 /// Does a client's call of one of the managers.
 #[inline(always)]
-fn call<D: Decider>(
+fn reply<D: Decider>(
     alloc: Global,
     managed: &mut SessionManagers<'_, D>,
     client: u8,
@@ -70,15 +70,9 @@ pub(crate) fn answer<R: Wait, D: Decider, E>(
 {
     let RunLine { line, run } = line;
     match run {
-        Run::File { client, call: asks } => call(alloc, managed, client, line, Call::File(asks)),
-        Run::Process { client, call: asks } => call(
-            alloc,
-            managed,
-            client,
-            line,
-            Call::Process(asks),
-        ),
-        Run::Port { client, call: asks } => call(alloc, managed, client, line, Call::Port(asks)),
+        Run::File { client, call } => reply(alloc, managed, client, line, Call::File(call)),
+        Run::Process { client, call } => reply(alloc, managed, client, line, Call::Process(call)),
+        Run::Port { client, call } => reply(alloc, managed, client, line, Call::Port(call)),
         Run::Begin { client, manager } => {
             let number = managed.acting(client, manager);
             managed.begin(alloc, client, manager);

@@ -1,6 +1,6 @@
 -- What a session declares, by its indexes.
 use Rattle.std.proofs.Common.{◌<◌, ◌≤◌, ltb, length, get_or, ◌≡◌, ◌∙◌, ◌⊎◌, inl, inr, arith, ℕ, zero, suc, Bool, true, false, List, [], ◌∷◌, ◌++◌, None, Some, Option, refl, sym, ap}
-use Rattle.std.specs.Prelude.{◌&&◌, ◌||◌, ◌==◌, not, is_some, map, slice_get, option_and_then, IfSome}
+use Rattle.std.specs.Prelude.{◌&&◌, ◌||◌, ◌==◌, not, is_some, map, slice_get, option_and_then}
 use Rattle.std.specs.List.{list_any, position, position_or_len}
 use Rattle.std.proofs.lemmas.Bool.{lt-ltb, ne_eqb}
 use Rattle.std.proofs.lemmas.List.{length-map}
@@ -63,7 +63,7 @@ one_path : (a b : List (List ℕ)) → same_path a b ≡ true → a ≡ b
 one_path a b same = (slice_eq-Decides bytes_eq-Decides a b (same_path a b) refl).0 same
 
 -- one member more, among those that pass
-any_more : {X : Type 0} (p : X → Bool) (xs : List X) (x : X) → (list_any p xs ≡ true) ⊎ (p x ≡ true) → list_any p (xs ++ x ∷ []) ≡ true
+pub any_more : {X : Type 0} (p : X → Bool) (xs : List X) (x : X) → (list_any p xs ≡ true) ⊎ (p x ≡ true) → list_any p (xs ++ x ∷ []) ≡ true
 any_more p xs x some = list_any-append p xs (x ∷ []) ∙ of_some some
   where
     of_some : (list_any p xs ≡ true) ⊎ (p x ≡ true) → (list_any p xs || (p x || false)) ≡ true

@@ -3,6 +3,7 @@ pub mod SessionLemmas
 pub mod PassLemmas
 pub mod LimitLemmas
 pub mod CallLemmas
+pub mod ClientLemmas
 pub mod PlaceLemmas
 pub mod LineLemmas
 pub mod ReadingLemmas

@@ -1,6 +1,5 @@
 -- What is left of a text, read from here, is the whole answer.
 use Rattle.std.proofs.Common.{◌≡◌, ◌+◌, true, false, Result, ℕ, List, [], ◌∷◌, Ok, Err, refl}
-use Rattle.text_lines.specs.Lines.{lines_of}
 use Rattle.text_lines.specs.ResultSteps.{LineFault}
 use Rattle.text_lines.specs.Refusals.{Fails, FailsText}
 use Rattle.text_lines.specs.declared.fault.Refusal.{Refusal}
@@ -18,22 +17,22 @@ use Rattle.session_text.specs.Reading.{is_session_line, session_line_read, numbe
 use Rattle.session_text.specs.Readers.{SessionReader}
 
 -- what the reader makes of the lines that are left, below one line more
-pub below_line : (reader next : SessionReader) (rest below line : List ℕ) (total : Result SessionParts LineFault) → read_lines reader (lines_of rest) ≡ total → lines_of rest ≡ line ∷ lines_of below → read_line reader line ≡ Ok next → read_lines next (lines_of below) ≡ total
+pub below_line : (reader next : SessionReader) (rest below : List (List ℕ)) (line : List ℕ) (total : Result SessionParts LineFault) → read_lines reader rest ≡ total → rest ≡ line ∷ below → read_line reader line ≡ Ok next → read_lines next below ≡ total
 unfolding read_lines
 below_line reader next rest below line total so_far lines said = rw (lines, said) at so_far
 
 -- a faulty line
-faulty : (reader : SessionReader) (rest below line : List ℕ) (e : LineFault) (total : Result SessionParts LineFault) → read_lines reader (lines_of rest) ≡ total → lines_of rest ≡ line ∷ lines_of below → read_line reader line ≡ Err e → total ≡ Err e
+faulty : (reader : SessionReader) (rest below : List (List ℕ)) (line : List ℕ) (e : LineFault) (total : Result SessionParts LineFault) → read_lines reader rest ≡ total → rest ≡ line ∷ below → read_line reader line ≡ Err e → total ≡ Err e
 unfolding read_lines
 faulty reader rest below line e total so_far lines said = let whole = rw (lines, said) at so_far in cc
 
 -- the text is refused as its faulty line is
-pub fails_at : (reader : SessionReader) (rest below line : List ℕ) (fault : TextFault) (total : Result SessionParts LineFault) → read_lines reader (lines_of rest) ≡ total → lines_of rest ≡ line ∷ lines_of below → FailsText fault (read_line reader line) → FailsText fault total
+pub fails_at : (reader : SessionReader) (rest below : List (List ℕ)) (line : List ℕ) (fault : TextFault) (total : Result SessionParts LineFault) → read_lines reader rest ≡ total → rest ≡ line ∷ below → FailsText fault (read_line reader line) → FailsText fault total
 fails_at reader rest below line text_fault.Memory total so_far lines said = tt
 fails_at reader rest below line (text_fault.Text n kind) total so_far lines said = faulty reader rest below line (record { line = n; kind = kind }) total so_far lines said
 
 -- no line is left
-pub at_end : (reader : SessionReader) (rest : List ℕ) (total : Result SessionParts LineFault) → read_lines reader (lines_of rest) ≡ total → lines_of rest ≡ [] → total ≡ read_end reader
+pub at_end : (reader : SessionReader) (rest : List (List ℕ)) (total : Result SessionParts LineFault) → read_lines reader rest ≡ total → rest ≡ [] → total ≡ read_end reader
 unfolding read_lines
 at_end reader rest total so_far none = let whole = rw none at so_far in cc
 

@@ -1,7 +1,6 @@
 //! Reading a session text to its end: its policy, its session lines, and the lines that run.
 
 ghost use Rattle.std.specs.Prelude.{◌≡◌, ◌∷◌, ◌≤◌, true, IfOk, OnOk};
-ghost use Rattle.text_lines.specs.Lines.{lines_of};
 ghost use Rattle.text_lines.specs.Refusals.{GivesText};
 ghost use Rattle.text_lines.specs.declared.fault.TextFault.TheVariants as text_fault;
 ghost use Rattle.policy_text.specs.Reading.{IsRefusedAt};
@@ -19,20 +18,20 @@ use crate::setup_lines::setup_read;
 use policy_text::PolicyReader;
 use session_forms::{SetupForm, is_end, run_form, setup_form};
 use std::alloc::Global;
-use text_lines::{FaultKind, Refusal, TextFault, Words, first_line, line_words};
+use text_lines::{FaultKind, Line, Lines, Refusal, TextFault, Words, line_words};
 
 /// Reads a session text. Ok exactly where it is one, and else its first faulty line and what is wrong with it.
 pub fn read(alloc: Global, bytes: &[u8]) -> Result<Session, TextFault>
     ensures { GivesText result (Reading.session_of bytes.now) }
 {
     let mut policy = PolicyReader::new();
-    let mut rest = bytes;
-    'lines: while let Some((line, below)) = first_line(rest) {
-        if is_session_line(line) {
-            return read_session(alloc, policy, line, below);
+    let mut lines = Lines::of(bytes);
+    'lines: while let Some(line) = lines.next() {
+        if is_session_line(&line) {
+            return read_session(alloc, policy, &line, lines);
         }
-        match policy.read_line(alloc, line) {
-            Ok(()) => rest = below,
+        match policy.read_line(alloc, &line) {
+            Ok(()) => {}
             Err(fault) => return Err(fault),
         }
     }
@@ -43,14 +42,14 @@ pub fn read(alloc: Global, bytes: &[u8]) -> Result<Session, TextFault>
 fn read_session<'a>(
     alloc: Global,
     policy: PolicyReader<'a>,
-    line: &[u8],
-    bytes: &'a [u8],
+    line: &Line<'a>,
+    lines: Lines<'a>,
 ) -> Result<Session, TextFault>
     requires { Reading.is_session_line line.now ≡ true }
-    ensures { GivesText result (Reading.read_lines (part.Policy policy.entry) (line.now ∷ lines_of bytes.now)) }
+    ensures { GivesText result (Reading.read_lines (part.Policy policy.entry) (line.now ∷ lines.entry)) }
 {
     match session_line_read(alloc, policy, line) {
-        Ok((number, setup)) => read_setup(alloc, number, setup, bytes),
+        Ok((number, setup)) => read_setup(alloc, number, setup, lines),
         Err(fault) => Err(fault),
     }
 }
@@ -60,7 +59,7 @@ fn read_session<'a>(
 fn session_line_read<'a>(
     alloc: Global,
     policy: PolicyReader<'a>,
-    line: &[u8],
+    line: &Line<'a>,
 ) -> Result<(u32, Setup<'a>), TextFault>
     ensures said { Reading.IsBegun result (Reading.session_line_read policy.entry line.now) }
     ensures counted { IfOk result (λ begun. begun.0 ≤ 100001) }
@@ -85,21 +84,18 @@ fn read_setup<'a>(
     alloc: Global,
     first: u32,
     begun: Setup<'a>,
-    bytes: &'a [u8],
+    below: Lines<'a>,
 ) -> Result<Session, TextFault>
     requires { first ≤ 100001 }
-    ensures { GivesText result (Reading.read_lines (part.Setup (record { number = first; above = begun.entry })) (lines_of bytes.now)) }
+    ensures { GivesText result (Reading.read_lines (part.Setup (record { number = first; above = begun.entry })) below.entry) }
 {
     let mut number = first;
     let mut setup = begun;
-    let mut rest = bytes;
-    'lines: while let Some((line, below)) = first_line(rest) {
-        match numbered_line_read(alloc, number, line, &mut setup) {
-            Ok(true) => return read_run(alloc, number + 1, setup, below),
-            Ok(false) => {
-                number += 1;
-                rest = below;
-            }
+    let mut lines = below;
+    'lines: while let Some(line) = lines.next() {
+        match numbered_line_read(alloc, number, &line, &mut setup) {
+            Ok(true) => return read_run(alloc, number + 1, setup, lines),
+            Ok(false) => number += 1,
             Err(refusal) => return Err(refused_at(number, refusal)),
         }
     }
@@ -111,23 +107,20 @@ fn read_run<'a>(
     alloc: Global,
     first: u32,
     setup: Setup<'a>,
-    bytes: &'a [u8],
+    below: Lines<'a>,
 ) -> Result<Session, TextFault>
     requires { first ≤ 100001 }
-    ensures { GivesText result (Reading.read_lines (part.Run (record { number = first; above = setup.entry.session })) (lines_of bytes.now)) }
+    ensures { GivesText result (Reading.read_lines (part.Run (record { number = first; above = setup.entry.session })) below.entry) }
 {
     let mut number = first;
     let mut running = match Running::begun(alloc, setup) {
         Ok(running) => running,
         Err(_memory) => return Err(TextFault::Memory),
     };
-    let mut rest = bytes;
-    'lines: while let Some((line, below)) = first_line(rest) {
-        match run_line_read(alloc, number, line, &mut running) {
-            Ok(()) => {
-                number += 1;
-                rest = below;
-            }
+    let mut lines = below;
+    'lines: while let Some(line) = lines.next() {
+        match run_line_read(alloc, number, &line, &mut running) {
+            Ok(()) => number += 1,
             Err(refusal) => return Err(refused_at(number, refusal)),
         }
     }
@@ -151,10 +144,10 @@ fn refused_at(line: u32, refusal: Refusal) -> TextFault
 }
 
 #[tactic(auto, unfolding(crate::specs::Reading::is_session_line))]
-fn is_session_line(line: &[u8]) -> bool
+fn is_session_line(line: &Line<'_>) -> bool
     ensures { result ≡ Reading.is_session_line line.now }
 {
-    let mut words = Words::new(line);
+    let mut words = Words::new(line.as_bytes());
     match words.next() {
         None => false,
         Some(first) => first.is(b"session"),
@@ -176,7 +169,7 @@ fn is_alone(mut words: Words<'_>) -> bool
 fn numbered_line_read<'a>(
     alloc: Global,
     number: u32,
-    line: &'a [u8],
+    line: &Line<'a>,
     setup: &mut Setup<'a>,
 ) -> Result<bool, Refusal>
     ensures said { Reading.Leads result number setup.new (Reading.numbered_line_read number line.now setup.old) }
@@ -227,7 +220,7 @@ fn is_run(form: &SetupForm<'_>) -> bool
 fn run_line_read<'a>(
     alloc: Global,
     number: u32,
-    line: &'a [u8],
+    line: &Line<'a>,
     running: &mut Running<'a>,
 ) -> Result<(), Refusal>
     requires { AreAbove number running.old.lines }

@@ -1,15 +1,16 @@
 //! The lines that run, as far as they are read.
 
-ghost use Rattle.std.specs.Prelude.{◌≡◌, ◌<◌, [], length, IfOk, IfSome, OnOk, OnErr};
+ghost use Rattle.std.specs.Prelude.{◌≡◌, ◌<◌, [], length, Some, IfOk, IfSome, OnOk, OnErr};
 ghost use Rattle.session_text.specs.Above;
 ghost use Rattle.session_text.specs.Grammar;
 ghost use Rattle.session_text.specs.Sessions.{IsSidOf, MayLine};
 
 use crate::look_up::{client_number, context_sid};
 use crate::passes::{PassChange, PassTable};
-use crate::session::{Run, Session};
+use crate::session::{ClientLine, Run, Session};
 use crate::setup::Setup;
 use flask_sid::{ContextOf, Memory, Sid, Word};
+use policy_model::Guesses;
 use policy_text::ContextIndex;
 use session_forms::Manager;
 use std::alloc::Global;
@@ -17,13 +18,14 @@ use std::marker::Model;
 use text_lines::WordIndex;
 
 /// A session whose lines run. It knows which passes each client holds by the lines so far, and its indexes have the contexts
-/// and the names of clients. Contracts see the session.
+/// and the names of clients, nearly each of which is found at a guess. Contracts see the session.
 #[derive(Drop)]
 pub(crate) struct Running<'a> {
     session: Session,
     held: PassTable,
     contexts: ContextIndex<'a>,
     clients: WordIndex<'a>,
+    guesses: Guesses,
 }
 
 impl<'a> Model for Running<'a> {
@@ -45,11 +47,13 @@ impl<'a> Running<'a> {
     {
         let (session, contexts, clients) = setup.finish();
         let held = PassTable::none_held(alloc, session.clients().len())?;
+        let guesses = guesses_of(session.clients());
         Ok(Running {
             session,
             held,
             contexts,
             clients,
+            guesses,
         })
     }
 
@@ -62,6 +66,7 @@ impl<'a> Running<'a> {
             held: _,
             contexts: _,
             clients: _,
+            guesses: _,
         } = self;
         session
     }
@@ -79,7 +84,25 @@ impl<'a> Running<'a> {
         ensures value { result ≡ Above.client_number self.now.clients name.now }
         ensures within { IfSome result (λ number. number < length self.now.clients) }
     {
-        client_number(&self.clients, name)
+        match self.guessed_number(name) {
+            Some(number) => Some(number),
+            None => client_number(&self.clients, name),
+        }
+    }
+
+    /// The number of the client of that name, where the guess at it is right.
+    #[inline(always)]
+    fn guessed_number(&self, name: &Word<'a>) -> Option<u8>
+        ensures value { IfSome result (λ number. Above.client_number self.now.clients name.now ≡ Some number) }
+        ensures within { IfSome result (λ number. number < length self.now.clients) }
+    {
+        let place = self.guesses.place(name.as_bytes());
+        let client = self.session.parts().clients.get(place)?;
+        if client.name.is(name) {
+            Some(place as u8)
+        } else {
+            None
+        }
     }
 
     /// Whether a client of that name holds a pass of that manager.
@@ -105,4 +128,13 @@ impl<'a> Running<'a> {
         self.held.note(change);
         Ok(())
     }
+}
+
+/// Where the name of each client stands, to be guessed at.
+fn guesses_of(clients: &[ClientLine]) -> Guesses {
+    let mut guesses = Guesses::new();
+    'clients: for (place, client) in clients.iter().enumerate() {
+        guesses.note(client.name.as_bytes(), place);
+    }
+    guesses
 }

@@ -1,15 +1,15 @@
 -- Cutting a text into lines, and a line into words, from the front.
-use Rattle.std.proofs.Common.{◌≡◌, ◌≢◌, ◌∙◌, ◌<◌, ◌≤◌, ◌+◌, ℕ, zero, suc, true, false, not, cond, eqb, List, ◌∷◌, [], length, get_or, take, drop, refl, ap, sym, arith, Bool, Option, Some, None}
-use Rattle.std.specs.List.{All, filter, onto_first, position, position_or_len, slice_split}
-use Rattle.std.proofs.lemmas.List.Splits.{slice_split-cons_yes, slice_split-cons_no, length-slice_split}
+use Rattle.std.proofs.Common.{◌≡◌, ◌≢◌, ◌∙◌, ◌<◌, ◌≤◌, ◌+◌, ◌||◌, ℕ, zero, suc, true, false, not, cond, eqb, ltb, List, ◌∷◌, [], length, get_or, take, drop, min, refl, ap, sym, arith, Bool, Option, Some, None}
+use Rattle.std.specs.List.{All, filter, list_all, onto_first, position, position_or_len, slice_split}
+use Rattle.std.proofs.Math.Seq.{take-length, drop-length}
+use Rattle.std.proofs.lemmas.List.Splits.{slice_split-cons_yes, slice_split-cons_no, slice_split_first, length-slice_split}
 use Rattle.std.proofs.lemmas.List.Elements.{All-nil, All-cons, All-head, All-tail, All-weaker, All-filter}
-use Rattle.std.proofs.lemmas.List.Quantifiers.{position-Some}
 use Rattle.std.proofs.lemmas.Bool.Decides.{nat_tests}
-use Rattle.std.proofs.lemmas.List.Sums.{position_or_len_is}
-use Rattle.std.proofs.lemmas.Bool.{false_from_ne_true}
+use Rattle.std.proofs.lemmas.List.Sums.{position_or_len_is, prefix_len-le-length}
+use Rattle.std.proofs.lemmas.Bool.{and_parts, false_from_ne_true}
 use Rattle.memchr.specs.Find.{IsFirstByte}
-use Rattle.flask_sid.proofs.Cuts.{cut_at, uncut}
-use Rattle.text_lines.specs.Lines.{is_word_byte, is_gap, begins_word, is_filled, words_of, said_words, lines_below, lines_of, is_line_end}
+use Rattle.flask_sid.proofs.Cuts.{uncut}
+use Rattle.text_lines.specs.Lines.{is_word_byte, is_gap, begins_word, is_filled, words_of, said_words, lines_below, lines_of, is_line_end, is_text_byte, may_stand}
 
 -- a byte that divides words says nothing
 pub words_of_gap : (b : ℕ) (bs : List ℕ) → is_word_byte b ≡ false → words_of (b ∷ bs) ≡ words_of bs
@@ -40,6 +40,11 @@ pub begins_filled : (bytes : List ℕ) (k : ℕ) → begins_word bytes ≡ true 
 begins_filled [] k begins first = cc
 begins_filled (b ∷ bs) zero begins first = ap not begins
 begins_filled (b ∷ bs) (suc k) begins first = absurd (omega (arith, first))
+
+-- a word has a byte
+pub begins_some : (bytes : List ℕ) → begins_word bytes ≡ true → 1 ≤ length bytes
+begins_some [] begins = cc
+begins_some (b ∷ bs) begins = omega arith
 
 -- what words from a byte of a word on say is told by that byte
 pub said_from : (b : ℕ) (bs : List ℕ) → is_word_byte b ≡ true → said_words (words_of (b ∷ bs)) ≡ cond (eqb b 35) [] (words_of (b ∷ bs))
@@ -72,27 +77,45 @@ unfolding words_of
 no_word [] none = refl
 no_word (b ∷ bs) none = absurd (grind (arith, nat_tests, none))
 
--- the one word of bytes with no gap
-pub one_word : (bytes : List ℕ) → begins_word bytes ≡ true → position is_gap bytes ≡ None → words_of bytes ≡ bytes ∷ words_of []
-unfolding words_of
-one_word [] begins none = cc
-one_word (b ∷ bs) begins none = rw (uncut is_gap (b ∷ bs) none) refl
+-- bytes up to the first gap, where they begin with a word
+filled : (bytes : List ℕ) → begins_word bytes ≡ true → is_filled (take (position_or_len is_gap bytes) bytes) ≡ true
+filled [] begins = begins
+filled (b ∷ bs) begins =
+    let some : 0 < position_or_len is_gap (b ∷ bs) = rw begins (omega arith) in
+    some_front (position_or_len is_gap (b ∷ bs)) some
+  where
+    some_front : (n : ℕ) → 0 < n → is_filled (take n (b ∷ bs)) ≡ true
+    some_front zero some = absurd (omega (arith, some))
+    some_front (suc n) some = refl
 
--- bytes up to a gap that is not at once
-filled : (b : ℕ) (bs : List ℕ) (i : ℕ) → is_word_byte b ≡ true → position is_gap (b ∷ bs) ≡ Some i → is_filled (take i (b ∷ bs)) ≡ true
-filled b bs zero begins at =
-    let gap : is_gap b ≡ true = (position-Some is_gap (b ∷ bs) 0 0 at).1 in
-    let word : is_gap b ≡ false = ap not begins in
-    cc
-filled b bs (suc i) begins at = refl
+-- the one word of bytes with no gap
+whole_word : (bytes : List ℕ) → begins_word bytes ≡ true → position_or_len is_gap bytes ≡ length bytes → words_of bytes ≡ bytes ∷ words_of []
+unfolding words_of
+whole_word [] begins whole = cc
+whole_word (b ∷ bs) begins whole = rw (uncut is_gap (b ∷ bs) (none_at whole)) refl
+  where
+    none_at : position_or_len is_gap (b ∷ bs) ≡ length (b ∷ bs) → position is_gap (b ∷ bs) ≡ None
+    none_at whole =
+        elim (ltb (position_or_len is_gap (b ∷ bs)) (length (b ∷ bs))) as (λ v. ltb (position_or_len is_gap (b ∷ bs)) (length (b ∷ bs)) ≡ v → cond v (Some (position_or_len is_gap (b ∷ bs))) None ≡ None) [
+          | true ↦ λ low. absurd (grind (arith, nat_tests, low, whole))
+          | false ↦ λ past. refl
+        ] refl
 
 -- the first word ends at the first gap
-pub word_cut : (bytes : List ℕ) (i : ℕ) → begins_word bytes ≡ true → position is_gap bytes ≡ Some i → (i < length bytes) × (words_of bytes ≡ take i bytes ∷ words_of (drop (i + 1) bytes))
+pub word_cut : (bytes : List ℕ) (i : ℕ) → begins_word bytes ≡ true → i ≡ position_or_len is_gap bytes → words_of bytes ≡ take i bytes ∷ words_of (drop (min (length bytes) (i + 1)) bytes)
 unfolding words_of
-word_cut [] i begins at = cc
-word_cut (b ∷ bs) i begins at =
-    let parts = cut_at is_gap (b ∷ bs) 0 i at in
-    (parts.0, rw (parts.1, filled b bs i begins at) refl)
+word_cut bytes i begins at = by_end (ltb i (length bytes)) refl
+  where
+    by_end : (v : Bool) → ltb i (length bytes) ≡ v → words_of bytes ≡ take i bytes ∷ words_of (drop (min (length bytes) (i + 1)) bytes)
+    by_end true low =
+        let within : position_or_len is_gap bytes < length bytes = grind (arith, nat_tests, low, at) in
+        let behind : min (length bytes) (i + 1) ≡ i + 1 = omega (arith, at, within) in
+        rw (behind, at, slice_split_first is_gap bytes 0 within, filled bytes begins) refl
+    by_end false past =
+        let most : position_or_len is_gap bytes ≤ length bytes = prefix_len-le-length (λ b. not (is_gap b)) bytes in
+        let whole : i ≡ length bytes = grind (arith, nat_tests, past, at, most) in
+        let behind : min (length bytes) (i + 1) ≡ length bytes = omega (arith, whole) in
+        rw (behind, whole, take-length bytes, drop-length bytes) (whole_word bytes begins (sym at ∙ whole))
 
 -- a part with one byte more at its front, and the parts behind it
 onto_within : (b n m : ℕ) (parts : List (List ℕ)) → n < m → All (λ (part : List ℕ). length part ≤ n) parts → All (λ (part : List ℕ). length part ≤ m) (onto_first b parts)
@@ -156,3 +179,42 @@ first_position p xs (Some i) first =
     let within : i < length xs = first.0.high in
     let at : position_or_len p xs ≡ i = position_or_len_is p xs i 0 (omega arith) (λ k low. false_from_ne_true _ (first.0.before k (omega arith) low)) (λ in_list. first.1) in
     grind (arith, nat_tests, at)
+
+-- a part with one byte more at its front that may stand in a line, and the parts behind it
+onto_stands : (b : ℕ) (parts : List (List ℕ)) → may_stand b ≡ true → list_all (list_all may_stand) parts ≡ true → list_all (list_all may_stand) (onto_first b parts) ≡ true
+onto_stands b [] stands all = rw stands refl
+onto_stands b (part ∷ parts) stands all = rw stands all
+
+-- a byte of a text that ends no line may stand in one
+stands_within : (b : ℕ) → is_line_end b ≡ false → is_text_byte b ≡ true → may_stand b ≡ true
+stands_within b within here = or_first (may_stand b) (is_line_end b) within here
+  where
+    or_first : (x y : Bool) → y ≡ false → (x || y) ≡ true → x ≡ true
+    or_first true y other either = refl
+    or_first false y other either = sym other ∙ either
+
+-- where each byte may stand in a text, each byte of its parts between line ends may stand in a line
+parts_stand : (bytes : List ℕ) → list_all is_text_byte bytes ≡ true → list_all (list_all may_stand) (slice_split is_line_end bytes) ≡ true
+parts_stand [] all = refl
+parts_stand (b ∷ bs) all =
+    let here = and_parts (is_text_byte b) (list_all is_text_byte bs) all in
+    by_end (is_line_end b) refl here.0 (parts_stand bs here.1)
+  where
+    by_end : (v : Bool) → is_line_end b ≡ v → is_text_byte b ≡ true → list_all (list_all may_stand) (slice_split is_line_end bs) ≡ true → list_all (list_all may_stand) (slice_split is_line_end (b ∷ bs)) ≡ true
+    by_end true ends here all = rw (slice_split-cons_yes is_line_end b bs ends) all
+    by_end false within here all = rw (slice_split-cons_no is_line_end b bs within) (onto_stands b (slice_split is_line_end bs) (stands_within b within here) all)
+
+-- the last part is no line where it is empty
+lines_stand : (parts : List (List ℕ)) → list_all (list_all may_stand) parts ≡ true → list_all (list_all may_stand) (lines_below parts) ≡ true
+unfolding lines_below
+lines_stand [] all = refl
+lines_stand ([] ∷ []) all = refl
+lines_stand ([] ∷ (part ∷ parts)) all = lines_stand (part ∷ parts) all
+lines_stand ((b ∷ bs) ∷ parts) all =
+    let here = and_parts (list_all may_stand (b ∷ bs)) (list_all (list_all may_stand) parts) all in
+    rw here.0 (lines_stand parts here.1)
+
+-- where each byte may stand in a text, each byte of its lines may stand in a line
+pub text_stands : (bytes : List ℕ) → list_all is_text_byte bytes ≡ true → list_all (list_all may_stand) (lines_of bytes) ≡ true
+unfolding lines_of
+text_stands bytes all = lines_stand (slice_split is_line_end bytes) (parts_stand bytes all)

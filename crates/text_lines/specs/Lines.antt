@@ -1,5 +1,5 @@
 -- Lines and words, as every text of this repository has them.
-use Rattle.std.specs.Prelude.{ℕ, Bool, true, false, ◌&&◌, ◌||◌, not, ◌==◌, nat_le, nat_lt, List, [], ◌∷◌, Result, Ok, Err, if◌then◌else◌}
+use Rattle.std.specs.Prelude.{◌≡◌, IsTrue, ℕ, Bool, true, false, ◌&&◌, ◌||◌, not, ◌==◌, nat_le, nat_lt, List, [], ◌∷◌, Result, Ok, Err, if◌then◌else◌}
 use Rattle.std.specs.List.{list_all, filter, slice_split}
 use Rattle.text_lines.specs.declared.fault.FaultKind.{FaultKind}
 use Rattle.text_lines.specs.declared.fault.FaultKind.TheVariants.{Syntax, Limit}
@@ -24,6 +24,18 @@ may_stand b = is_word_byte b || b == 32 || b == 9
 -- the byte that ends a line
 abbrev pub is_line_end : ℕ → Bool
 is_line_end b = b == 10
+
+-- a byte that may stand in a text: one of a line, or one that ends a line
+abbrev pub is_text_byte : ℕ → Bool
+is_text_byte b = may_stand b || is_line_end b
+
+-- where this is true, each byte of a line may stand in it
+abbrev pub MayStand : Bool → List ℕ → Type 0
+MayStand tested line = IsTrue tested → list_all may_stand line ≡ true
+
+-- where this is true, each byte of each line may stand in it
+abbrev pub MayAllStand : Bool → List (List ℕ) → Type 0
+MayAllStand tested lines = IsTrue tested → list_all (list_all may_stand) lines ≡ true
 
 -- the lines, whose last is none where no byte follows the last line end
 unfoldable pub lines_below : List (List ℕ) → List (List ℕ)

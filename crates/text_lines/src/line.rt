@@ -5,6 +5,7 @@ ghost use Rattle.std.specs.List.{list_all, position};
 ghost use Rattle.text_lines.specs.Lines;
 
 use crate::fault::FaultKind;
+use crate::lines::Line;
 use crate::words::{Words, behind_gaps, is_word_byte};
 use memchr::memchr;
 
@@ -40,20 +41,20 @@ fn line_end(bytes: &[u8]) -> Option<usize>
 /// What a line of this number says: its words, or none where it is blank or a comment. `Limit` exactly for a
 /// number past the limit, and else `Syntax` exactly for a byte that may not stand.
 #[tactic(auto, unfolding(crate::specs::Lines::line_words))]
-pub fn line_words<'a>(number: u32, line: &'a [u8]) -> Result<Words<'a>, FaultKind>
+pub fn line_words<'a>(number: u32, line: &Line<'a>) -> Result<Words<'a>, FaultKind>
     ensures said { result ≡ Lines.line_words number line.now }
     ensures counted { OnOk result (number ≤ 100000) }
 {
     if number > LINE_LIMIT {
         return Err(FaultKind::Limit);
     }
-    if !may_all_stand(line) {
+    if !line.may_stand() {
         return Err(FaultKind::Syntax);
     }
-    Ok(said_words(line))
+    Ok(said_words(line.as_bytes()))
 }
 
-fn may_all_stand(line: &[u8]) -> bool
+pub(crate) fn may_all_stand(line: &[u8]) -> bool
     ensures { result ≡ list_all Lines.may_stand line.now }
 {
     // It does not stop at a bad byte, since nearly every line has none: so many bytes are tested at once.

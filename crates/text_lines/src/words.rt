@@ -1,7 +1,7 @@
 //! The words of a line.
 
 ghost use Rattle.std.specs.Prelude.{◌≡◌, ◌≤◌, [], ◌∷◌, MatchOption, length, true};
-ghost use Rattle.std.specs.List.{All, position};
+ghost use Rattle.std.specs.List.{All, position_or_len};
 ghost use Rattle.text_lines.specs.Lines.{begins_word, is_filled, is_gap, is_word_byte, words_of};
 
 use flask_sid::Word;
@@ -87,21 +87,22 @@ fn is_gap(b: u8) -> bool
     !is_word_byte(b)
 }
 
-// The place of the first gap behind bytes that begin with a word.
+// How many bytes the word has with which these begin.
 #[inline(always)]
-fn place_of_gap(bytes: &[u8]) -> Option<usize>
+fn word_length(bytes: &[u8]) -> usize
     requires { begins_word bytes.now ≡ true }
-    ensures { result ≡ position is_gap bytes.now }
+    ensures value { result ≡ position_or_len is_gap bytes.now }
+    ensures within { result ≤ length bytes.now }
 {
-    // The first byte is none.
+    // The first byte is one of it.
     let mut at = 1;
     'bytes: while at < bytes.len() {
         if is_gap(bytes[at]) {
-            return Some(at);
+            return at;
         }
         at += 1;
     }
-    None
+    at
 }
 
 // The word with which the bytes begin, and what stands behind the gap that ends it.
@@ -110,14 +111,10 @@ fn first_word(bytes: &[u8]) -> (&[u8], &[u8])
     requires { begins_word bytes.now ≡ true }
     ensures { words_of bytes.now ≡ result.0.now ∷ words_of result.1.now }
 {
-    match place_of_gap(bytes) {
-        None => (bytes, &[]),
-        Some(at) => {
-            let (word, _) = bytes.split_at(at);
-            let (_, rest) = bytes.split_at(at + 1);
-            (word, rest)
-        }
-    }
+    let length = word_length(bytes);
+    let (word, _) = bytes.split_at(length);
+    let (_, rest) = bytes.split_at(bytes.len().min(length + 1));
+    (word, rest)
 }
 
 // The first word of the bytes and what stands behind it, or `None` where there is no word.

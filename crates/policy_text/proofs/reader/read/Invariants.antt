@@ -1,10 +1,9 @@
 use Rattle.std.proofs.Common.{length}
-use Rattle.text_lines.specs.Lines.{lines_of}
 use Rattle.policy_text.proofs.ReadingLemmas.{IsBelow}
 use Rattle.policy_text.proofs.reader.read.Given as goal
 
 abbrev pub invariant-lines : goal.invariant-lines
-invariant-lines l = IsBelow l.reader l.rest l.fn.bytes
+invariant-lines l = IsBelow l.reader l.lines l.fn.bytes
 
 abbrev pub decreases-lines : goal.decreases-lines
-decreases-lines l = length (lines_of l.rest)
+decreases-lines l = length l.lines

@@ -1,4 +1,4 @@
-use Rattle.std.proofs.Common.{◌≡◌, ◌<◌, sym, refl, arith}
+use Rattle.std.proofs.Common.{◌<◌, refl, arith}
 use Rattle.std.proofs.lemmas.List.Elements.{All-nil}
 use Rattle.session_text.specs.declared.session.RunLine.{RunLine}
 use Rattle.session_text.specs.Reading.{read_end}
@@ -17,16 +17,16 @@ pub lines-preserved : goal.lines-preserved
 lines-preserved c =
     let counted = c.in-Ok-run_line_read.ensures.counted in
     record {
-      so_far = below_line _ _ _ _ c.in-Some.line.now _ c.lines.invariant.so_far c.in-Some.ensures (run_line c.lines.number c.lines.running c.run_line_read.new.running c.in-Some.line.now c.in-Ok-run_line_read.ensures.said);
+      so_far = below_line _ _ _ _ _ _ c.lines.invariant.so_far c.in-Some.ensures (run_line c.lines.number c.lines.running c.run_line_read.new.running _ c.in-Ok-run_line_read.ensures.said);
       counted = omega (arith, counted);
-      above = next_above c.lines.number c.in-Some.line.now c.lines.running c.run_line_read.new.running c.lines.invariant.above c.in-Ok-run_line_read.ensures.said;
+      above = next_above c.lines.number _ c.lines.running c.run_line_read.new.running c.lines.invariant.above c.in-Ok-run_line_read.ensures.said;
     }
 
 pub returns-in-Err-run_line_read : goal.returns-in-Err-run_line_read
 returns-in-Err-run_line_read c =
-    fails_at _ _ _ c.in-Some.line.now c.refused_at.result _ c.lines.invariant.so_far c.in-Some.ensures
-    (run_refused c.lines.number c.lines.running c.in-Some.line.now c.in-Err-run_line_read.refusal c.refused_at.result c.in-Err-run_line_read.ensures.said c.refused_at.ensures)
+    fails_at _ _ _ _ c.refused_at.result _ c.lines.invariant.so_far c.in-Some.ensures
+    (run_refused c.lines.number c.lines.running _ c.in-Err-run_line_read.refusal c.refused_at.result c.in-Err-run_line_read.ensures.said c.refused_at.ensures)
 
 pub returns : goal.returns
 unfolding read_end
-returns c = rw c.finish.ensures (at_end _ _ _ c.lines.invariant.so_far c.in_default.ensures)
+returns c = rw c.finish.ensures (at_end _ _ _ c.lines.invariant.so_far c.in_default.ensures.0)

@@ -1,5 +1,4 @@
 use Rattle.std.proofs.Common.{◌≡◌, ◌≤◌, length}
-use Rattle.text_lines.specs.Lines.{lines_of}
 use Rattle.session_text.specs.Progress.{AreAbove}
 use Rattle.session_text.specs.Readers as part
 use Rattle.session_text.specs.Reading.{read_lines}
@@ -7,10 +6,10 @@ use Rattle.session_text.proofs.reader.read_run.Given as goal
 
 abbrev pub invariant-lines : goal.invariant-lines
 invariant-lines l = record {
-  so_far : read_lines (part.Run (record { number = l.number; above = l.running })) (lines_of l.rest) ≡ read_lines (part.Run (record { number = l.fn.first; above = l.fn.setup.session })) (lines_of l.fn.bytes);
+  so_far : read_lines (part.Run (record { number = l.number; above = l.running })) l.lines ≡ read_lines (part.Run (record { number = l.fn.first; above = l.fn.setup.session })) l.fn.below;
   counted : l.number ≤ 100001;
   above : AreAbove l.number l.running.lines;
 }
 
 abbrev pub decreases-lines : goal.decreases-lines
-decreases-lines l = length (lines_of l.rest)
+decreases-lines l = length l.lines

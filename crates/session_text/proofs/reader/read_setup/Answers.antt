@@ -1,4 +1,4 @@
-use Rattle.std.proofs.Common.{◌≡◌, refl, arith}
+use Rattle.std.proofs.Common.{refl, arith}
 use Rattle.session_text.specs.Reading.{read_end}
 use Rattle.session_text.proofs.ReadingLemmas.{below_line, fails_at, at_end, setup_line, setup_refused}
 use Rattle.session_text.proofs.reader.read_setup.Goals as goal
@@ -11,20 +11,20 @@ lines-preserved c =
     let said = rw c.in-Ok-false.field-0-test at c.in-Ok-false.ensures.said in
     let counted = c.in-Ok-false.ensures.counted in
     record {
-      so_far = below_line _ _ _ _ c.in-Some.line.now _ c.lines.invariant.so_far c.in-Some.ensures (setup_line c.lines.number c.lines.setup c.in-Some.line.now _ said);
+      so_far = below_line _ _ _ _ _ _ c.lines.invariant.so_far c.in-Some.ensures (setup_line c.lines.number c.lines.setup _ _ said);
       counted = omega (arith, counted);
     }
 
 pub returns-in-Ok-true : goal.returns-in-Ok-true
 returns-in-Ok-true c =
     let said = rw c.in-Ok-true.field-0-test at c.in-Ok-true.ensures.said in
-    rw (← below_line _ _ _ _ c.in-Some.line.now _ c.lines.invariant.so_far c.in-Some.ensures (setup_line c.lines.number c.lines.setup c.in-Some.line.now _ said)) c.read_run.ensures
+    rw (← below_line _ _ _ _ _ _ c.lines.invariant.so_far c.in-Some.ensures (setup_line c.lines.number c.lines.setup _ _ said)) c.read_run.ensures
 
 pub returns-in-Err : goal.returns-in-Err
 returns-in-Err c =
-    fails_at _ _ _ c.in-Some.line.now c.refused_at.result _ c.lines.invariant.so_far c.in-Some.ensures
-    (setup_refused c.lines.number c.lines.setup c.in-Some.line.now c.in-Err.refusal c.refused_at.result c.in-Err.ensures.said c.refused_at.ensures)
+    fails_at _ _ _ _ c.refused_at.result _ c.lines.invariant.so_far c.in-Some.ensures
+    (setup_refused c.lines.number c.lines.setup _ c.in-Err.refusal c.refused_at.result c.in-Err.ensures.said c.refused_at.ensures)
 
 pub returns : goal.returns
 unfolding read_end
-returns c = rw (c.fault_at.ensures, at_end _ _ _ c.lines.invariant.so_far c.in_default.ensures) refl
+returns c = rw (c.fault_at.ensures, at_end _ _ _ c.lines.invariant.so_far c.in_default.ensures.0) refl

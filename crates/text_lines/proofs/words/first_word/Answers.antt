@@ -1,10 +1,5 @@
-use Rattle.std.proofs.Common.{sym}
-use Rattle.text_lines.proofs.LineLemmas.{one_word, word_cut}
+use Rattle.text_lines.proofs.LineLemmas.{word_cut}
 use Rattle.text_lines.proofs.words.first_word.Goals as goal
 
-pub returns-in-None : goal.returns-in-None
-returns-in-None c = one_word _ c.requires (sym c.in-None.ensures)
-
-pub returns-in-Some : goal.returns-in-Some
-returns-in-Some c =
-    rw (c.split_at.ensures.front, c.split_at-in-Some.ensures.back) (word_cut _ _ c.requires (sym c.in-Some.ensures)).1
+pub returns : goal.returns
+returns c = rw (c.split_at.ensures.front, c.split_at-2.ensures.back, c.min.ensures) (word_cut c.args.bytes.now c.word_length-length.result c.requires c.word_length-length.ensures.value)

@@ -1,4 +1,4 @@
-use Rattle.std.proofs.Common.{◌≡◌, sym, ap, ◌∙◌}
+use Rattle.std.proofs.Common.{sym, ap, ◌∙◌}
 use Rattle.std.specs.Option.{option_copied}
 use Rattle.session_text.proofs.IndexLemmas.{directory_nowhere, directory_lost, directory_found, none_told}
 use Rattle.session_text.proofs.setup.Setup.has_directory.Goals as goal
