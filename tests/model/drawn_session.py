@@ -2,11 +2,16 @@
 """Draws a session of many clients for a threaded run: calls of all three managers, held passes, and changes of policy.
 
     tests/model/drawn_session.py CLIENTS LINES SEED      prints it; CLIENTS from 1 to 62, LINES of the run
+    tests/model/drawn_session.py --long FOLDER           writes two long ones of 62 clients with two changes each, which tests/threads runs
 
 Each client uses slots and paths of its own and one file, process and port that all share, so that what one does another sees. A
 client gives back each pass that it took before it takes the next, and the administrator's lines stand among those of the clients.
+
+In a long one the first change is noticed a third down the lines and forced at once, over the passes that are held then; the second is noticed two
+thirds down, and not forced. The administrator has about as many lines as a client there, so that threads come to them while clients act.
 """
 
+import pathlib
 import random
 import sys
 
@@ -112,8 +117,32 @@ def drawn(clients, lines, seed):
     return "\n".join(head(clients) + run) + "\n"
 
 
+def two_changes(clients, lines, seed):
+    """A session with two changes, the first of them forced."""
+    draw, held, run = random.Random(seed), set(), []
+    fixed = {lines // 3 + at: line for at, line in enumerate(["notify 1", *["update 4294967295", "force"] * 8])}
+    fixed[lines * 2 // 3] = "notify 2"
+    for at in range(lines):
+        if at in fixed:
+            run.append(f"admin {fixed[at]}")
+        elif draw.randrange(clients + 1) == clients:
+            run.append("admin " + draw.choice(("update 2", "update 100", "ack", "ack")))
+        else:
+            run.append(client_line(draw, draw.randrange(clients), held))
+    return "\n".join(head(clients) + run) + "\n"
+
+
+def long_sessions():
+    """The long sessions, each with its name."""
+    return {f"clients_62_lines_{lines}": two_changes(62, lines, 7) for lines in (10_000, 30_000)}
+
+
 def main():
-    print(drawn(*map(int, sys.argv[1:4])), end="")
+    if sys.argv[1] == "--long":
+        for name, text in long_sessions().items():
+            pathlib.Path(sys.argv[2], f"{name}.text").write_text(text)
+    else:
+        print(drawn(*map(int, sys.argv[1:4])), end="")
 
 
 if __name__ == "__main__":
