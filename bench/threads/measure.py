@@ -103,7 +103,7 @@ def measure(programs, asked):
             path.write_text(text(clients, is_divided))
             judged(runs["threads"], path)
             judged(runs["plain"], path)
-            for processors in (1, 2, 4):
+            for processors in (1, 2, 3, 4):
                 found = {which: [] for which in runs}
                 for _ in range(asked.runs):
                     for which, words in runs.items():
