@@ -1,4 +1,4 @@
-//! A day of a notice board: from the text of a policy to the answers of a manager, in one program.
+//! A notice board whose policy changes: from the text of a policy to the answers of a manager, in one program.
 //!
 //! The policy has two versions. Its one client reads the board under the first, the administrator changes to the second, and the
 //! client's slot gives nothing any more. `docs/MANAGERS.md` goes through it.
@@ -7,10 +7,10 @@
 ghost use Rattle.std.specs.Prelude.{◌≡◌, true, length, IfSome};
 ghost use Rattle.policy_versions.specs.Judging.{is_sid};
 
-mod day;
+mod client_board;
 
 use access_vectors::Vector;
-use day::{Came, Day};
+use client_board::{Came, ClientBoard};
 use example_board::{BoardCall, BoardReply};
 use flask_sid::{Context, Memory, Sid};
 use manager_history::Ack;
@@ -54,7 +54,7 @@ fn sid_of(alloc: Global, catalogue: &Catalogue, text: &str) -> Option<Sid>
     }
 }
 
-/// Opens the board for ann, and lets the day go by.
+/// Opens the board for ann, and runs what happens there.
 #[tactic(auto, unfolding(policy_versions::specs::Tables::decisions_by))]
 fn open(rt: &HostRuntime, catalogue: &Catalogue) -> io::Result<()> {
     let Some(ann) = sid_of(rt.alloc(), catalogue, "ann:user_r:reader_t") else {
@@ -63,20 +63,20 @@ fn open(rt: &HostRuntime, catalogue: &Catalogue) -> io::Result<()> {
     let Some(label) = sid_of(rt.alloc(), catalogue, "sys:object_r:board_t") else {
         return println!(rt; "no context of the board");
     };
-    match Day::new(rt.alloc(), catalogue, ann, label) {
-        Ok(mut day) => run(rt, &mut day),
+    match ClientBoard::new(rt.alloc(), catalogue, ann, label) {
+        Ok(mut board) => run(rt, &mut board),
         Err(Memory) => println!(rt; "memory ran out"),
     }
 }
 
 /// Ann posts and reads, the version changes, and she reads again through the same slot.
-fn run(rt: &HostRuntime, day: &mut Day<'_, Catalogue>) -> io::Result<()> {
+fn run(rt: &HostRuntime, board: &mut ClientBoard<'_, Catalogue>) -> io::Result<()> {
     let alloc = rt.alloc();
     let mode = Vector::of(3);
-    tell(rt, day.act(alloc, BoardCall::Open { slot: 0, mode }))?;
+    tell(rt, board.act(alloc, BoardCall::Open { slot: 0, mode }))?;
     tell(
         rt,
-        day.act(
+        board.act(
             alloc,
             BoardCall::Post {
                 slot: 0,
@@ -84,20 +84,20 @@ fn run(rt: &HostRuntime, day: &mut Day<'_, Catalogue>) -> io::Result<()> {
             },
         ),
     )?;
-    tell(rt, day.act(alloc, BoardCall::Read { slot: 0 }))?;
-    change(rt, day)?;
-    tell(rt, day.act(alloc, BoardCall::Read { slot: 0 }))
+    tell(rt, board.act(alloc, BoardCall::Read { slot: 0 }))?;
+    change(rt, board)?;
+    tell(rt, board.act(alloc, BoardCall::Read { slot: 0 }))
 }
 
 /// The administrator chooses version 1: the change waits for one slot, which an update lets follow.
-fn change(rt: &HostRuntime, day: &mut Day<'_, Catalogue>) -> io::Result<()> {
-    match day.notify(rt.alloc(), 1) {
+fn change(rt: &HostRuntime, board: &mut ClientBoard<'_, Catalogue>) -> io::Result<()> {
+    match board.notify(rt.alloc(), 1) {
         Ok(number) => println!(rt; "notified {number}")?,
         Err(_) => return println!(rt; "the version is refused"),
     }
-    tell_ack(rt, day.acknowledge())?;
-    println!(rt; "updated, {} left", day.update(1))?;
-    tell_ack(rt, day.acknowledge())
+    tell_ack(rt, board.acknowledge())?;
+    println!(rt; "updated, {} left", board.update(1))?;
+    tell_ack(rt, board.acknowledge())
 }
 
 /// Prints what came of a call.

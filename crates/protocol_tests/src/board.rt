@@ -1,4 +1,4 @@
-//! A day of the example board, with a change of policy.
+//! A board of the example board, with a change of policy.
 
 ghost use Rattle.std.specs.Prelude.{◌≡◌, ◌<◌, ◌∷◌, [], IfOk};
 ghost use Rattle.example_board.specs.PlainManager.{IsCall};
@@ -84,30 +84,30 @@ enum Came {
 
 /// A board with one client, on one thread.
 #[derive(Drop)]
-struct Day<'d> {
-    board: Plain<'d, BoardCore<EachBits>, WithholdingRead>,
+struct ClientBoard<'d> {
+    manager: Plain<'d, BoardCore<EachBits>, WithholdingRead>,
 }
 
-impl<'d> Model for Day<'d> {
+impl<'d> Model for ClientBoard<'d> {
     ghost use Rattle.std.specs.Prelude.{◌≡◌, ℕ, length};
 
     ghost Value = { ℕ };
 
-    ghost view = { λ day. length day.board.keeper.core.opening.clients };
+    ghost view = { λ board. length board.manager.keeper.core.opening.clients };
 
-    ghost invariant = { λ day. length day.board.keeper.core.opening.clients ≡ 1 };
+    ghost invariant = { λ board. length board.manager.keeper.core.opening.clients ≡ 1 };
 }
 
-impl<'d> Day<'d> {
+impl<'d> ClientBoard<'d> {
     /// The board before the first call.
-    fn new(alloc: Global, decider: &'d WithholdingRead) -> Result<Day<'d>, Memory> {
+    fn new(alloc: Global, decider: &'d WithholdingRead) -> Result<ClientBoard<'d>, Memory> {
         let Some(client) = Sid::of(1) else {
             return Err(Memory);
         };
         let opening = one_client(alloc, client)?;
         let core = example_board::new(alloc, opening, EachBits);
-        Ok(Day {
-            board: Plain::new(alloc, core, 0, decider, 9),
+        Ok(ClientBoard {
+            manager: Plain::new(alloc, core, 0, decider, 9),
         })
     }
 
@@ -115,7 +115,7 @@ impl<'d> Day<'d> {
     fn act(&mut self, alloc: Global, call: BoardCall) -> Came
         requires ranges { IsCall call }
     {
-        match self.board.call(alloc, 0, 0, call) {
+        match self.manager.call(alloc, 0, 0, call) {
             Ok(Answer::Did(reply)) => Came::Did(reply),
             Ok(Answer::Aborted) => Came::Aborted,
             Err(Memory) => Came::WantedMemory,
@@ -126,70 +126,70 @@ impl<'d> Day<'d> {
     fn begin(&mut self, holder: u8)
         requires { holder < 64 }
     {
-        self.board.begin(holder);
+        self.manager.begin(holder);
     }
 
     /// A holder gives its pass back.
     fn end(&mut self, holder: u8)
         requires { holder < 64 }
     {
-        self.board.end(holder);
+        self.manager.end(holder);
     }
 
     /// Begins a change to a version.
     fn notify(&mut self, alloc: Global, version: u8) -> Result<u32, NotifyFault> {
-        self.board.notify(alloc, version)
+        self.manager.notify(alloc, version)
     }
 
     /// Updates some stale slots, and answers how many are left.
     fn update(&mut self, k: u64) -> u64 {
-        self.board.update(k)
+        self.manager.update(k)
     }
 
     /// Tries to acknowledge.
     fn acknowledge(&mut self) -> Ack {
-        self.board.acknowledge()
+        self.manager.acknowledge()
     }
 
     /// Tries to acknowledge by force.
     fn force(&mut self) -> Ack {
-        self.board.force()
+        self.manager.force()
     }
 }
 
 /// Opens slot 0, posts a number and reads it.
-fn morning(day: &mut Day<'_>, alloc: Global) -> [Came; 3] {
+fn before_change(board: &mut ClientBoard<'_>, alloc: Global) -> [Came; 3] {
     let mode = Vector::of(3);
-    let opened = day.act(alloc, BoardCall::Open { slot: 0, mode });
-    let posted = day.act(
+    let opened = board.act(alloc, BoardCall::Open { slot: 0, mode });
+    let posted = board.act(
         alloc,
         BoardCall::Post {
             slot: 0,
             number: 12,
         },
     );
-    let read = day.act(alloc, BoardCall::Read { slot: 0 });
+    let read = board.act(alloc, BoardCall::Read { slot: 0 });
     [opened, posted, read]
 }
 
 /// Withholds reading while the client holds a pass, and reads under it. The change is not acknowledged before the pass is
 /// given back, nor before the slot follows the new version.
-fn change(day: &mut Day<'_>, alloc: Global) -> (Came, [Ack; 3], u64) {
-    day.begin(0);
-    let _number = day.notify(alloc, 1);
-    let held = day.act(alloc, BoardCall::Read { slot: 0 });
-    let busy = day.acknowledge();
-    day.end(0);
-    let behind = day.acknowledge();
-    let left = day.update(5);
-    let done = day.acknowledge();
+fn change(board: &mut ClientBoard<'_>, alloc: Global) -> (Came, [Ack; 3], u64) {
+    board.begin(0);
+    let _number = board.notify(alloc, 1);
+    let held = board.act(alloc, BoardCall::Read { slot: 0 });
+    let busy = board.acknowledge();
+    board.end(0);
+    let behind = board.acknowledge();
+    let left = board.update(5);
+    let done = board.acknowledge();
     (held, [busy, behind, done], left)
 }
 
 /// Reads and posts again.
-fn evening(day: &mut Day<'_>, alloc: Global) -> [Came; 2] {
-    let read = day.act(alloc, BoardCall::Read { slot: 0 });
-    let posted = day.act(
+fn after_change(board: &mut ClientBoard<'_>, alloc: Global) -> [Came; 2] {
+    let read = board.act(alloc, BoardCall::Read { slot: 0 });
+    let posted = board.act(
         alloc,
         BoardCall::Post {
             slot: 0,
@@ -199,7 +199,7 @@ fn evening(day: &mut Day<'_>, alloc: Global) -> [Came; 2] {
     [read, posted]
 }
 
-/// What the morning's calls answer.
+/// What the calls before the change answer.
 fn done_done_number() -> [Came; 3] {
     [
         Came::Did(BoardReply::Done),
@@ -220,14 +220,14 @@ fn busy_behind_done() -> [Ack; 3] {
     ]
 }
 
-/// A day on which a change withholds reading.
+/// A change that withholds reading.
 #[test]
 fn a_change_withholds_reading(rt: HostRuntime) -> Result<(), Fail> {
     let decider = WithholdingRead;
-    let mut day = Day::new(rt.alloc(), &decider)?;
-    let before = morning(&mut day, rt.alloc());
-    let (held, acks, left) = change(&mut day, rt.alloc());
-    let after = evening(&mut day, rt.alloc());
+    let mut board = ClientBoard::new(rt.alloc(), &decider)?;
+    let before = before_change(&mut board, rt.alloc());
+    let (held, acks, left) = change(&mut board, rt.alloc());
+    let after = after_change(&mut board, rt.alloc());
     let denied = BoardReply::Denied {
         perm: FILE_READ,
         policy: 1,
@@ -242,21 +242,21 @@ fn a_change_withholds_reading(rt: HostRuntime) -> Result<(), Fail> {
 
 /// Withholds reading by force while the client holds a pass, reads under it, and allows reading again while another holder has
 /// a pass too, and reads once more. The first change waits for the slot alone, and the second for the other holder alone.
-fn forced_change(day: &mut Day<'_>, alloc: Global) -> ([Ack; 5], [Came; 2]) {
-    day.begin(0);
-    let _number = day.notify(alloc, 1);
-    let behind = day.force();
-    let _left = day.update(5);
-    let done = day.force();
-    let idle = day.force();
-    let first = day.act(alloc, BoardCall::Read { slot: 0 });
-    day.begin(1);
-    let _number = day.notify(alloc, 0);
-    let _left = day.update(5);
-    let busy = day.acknowledge();
-    let second = day.act(alloc, BoardCall::Read { slot: 0 });
-    day.end(1);
-    let again = day.acknowledge();
+fn forced_change(board: &mut ClientBoard<'_>, alloc: Global) -> ([Ack; 5], [Came; 2]) {
+    board.begin(0);
+    let _number = board.notify(alloc, 1);
+    let behind = board.force();
+    let _left = board.update(5);
+    let done = board.force();
+    let idle = board.force();
+    let first = board.act(alloc, BoardCall::Read { slot: 0 });
+    board.begin(1);
+    let _number = board.notify(alloc, 0);
+    let _left = board.update(5);
+    let busy = board.acknowledge();
+    let second = board.act(alloc, BoardCall::Read { slot: 0 });
+    board.end(1);
+    let again = board.acknowledge();
     ([behind, done, idle, busy, again], [first, second])
 }
 
@@ -279,15 +279,15 @@ fn behind_done_idle_busy_done() -> [Ack; 5] {
     ]
 }
 
-/// A day on which a change is forced while a pass is held: its calls are aborted, until it is given back.
+/// A change that is forced while a pass is held: its calls are aborted, until it is given back.
 #[test]
 fn a_forced_change_aborts_older_calls(rt: HostRuntime) -> Result<(), Fail> {
     let decider = WithholdingRead;
-    let mut day = Day::new(rt.alloc(), &decider)?;
-    let before = morning(&mut day, rt.alloc());
-    let (acks, under_pass) = forced_change(&mut day, rt.alloc());
-    day.end(0);
-    let after = day.act(rt.alloc(), BoardCall::Read { slot: 0 });
+    let mut board = ClientBoard::new(rt.alloc(), &decider)?;
+    let before = before_change(&mut board, rt.alloc());
+    let (acks, under_pass) = forced_change(&mut board, rt.alloc());
+    board.end(0);
+    let after = board.act(rt.alloc(), BoardCall::Read { slot: 0 });
     assert_eq!(rt; before, done_done_number());
     assert_eq!(rt; acks, behind_done_idle_busy_done());
     assert_eq!(rt; under_pass, [Came::Aborted, Came::Aborted]);

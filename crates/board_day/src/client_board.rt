@@ -22,29 +22,34 @@ pub enum Came {
 
 /// A board with one client, whose number is 0. Contracts see how many clients it has.
 #[derive(Drop)]
-pub struct Day<'d, D: Decider> {
-    board: Plain<'d, BoardCore<EachBits>, D>,
+pub struct ClientBoard<'d, D: Decider> {
+    manager: Plain<'d, BoardCore<EachBits>, D>,
 }
 
-impl<'d, D: Decider> Model for Day<'d, D> {
+impl<'d, D: Decider> Model for ClientBoard<'d, D> {
     ghost Value = { ℕ };
 
-    ghost view = { λ day. length day.board.keeper.core.opening.clients };
+    ghost view = { λ board. length board.manager.keeper.core.opening.clients };
 
-    ghost invariant = { λ day. length day.board.keeper.core.opening.clients ≡ 1 };
+    ghost invariant = { λ board. length board.manager.keeper.core.opening.clients ≡ 1 };
 }
 
-impl<'d, D: Decider> Day<'d, D> {
+impl<'d, D: Decider> ClientBoard<'d, D> {
     /// The board before the first call, under version 0. The last policy number that it may have is 9.
-    pub fn new(alloc: Global, decider: &'d D, client: Sid, label: Sid) -> Result<Day<'d, D>, Memory>
+    pub fn new(
+        alloc: Global,
+        decider: &'d D,
+        client: Sid,
+        label: Sid,
+    ) -> Result<ClientBoard<'d, D>, Memory>
         requires client { IsTrue ((D.decides decider.now).known client) }
         requires label { IsTrue ((D.decides decider.now).known label) }
     {
         let mut clients = Rows::new(alloc);
         clients.push(client)?;
         let core = example_board::new(alloc, BoardOpening { clients, label }, EachBits);
-        Ok(Day {
-            board: Plain::new(alloc, core, 0, decider, 9),
+        Ok(ClientBoard {
+            manager: Plain::new(alloc, core, 0, decider, 9),
         })
     }
 
@@ -52,7 +57,7 @@ impl<'d, D: Decider> Day<'d, D> {
     pub fn act(&mut self, alloc: Global, call: BoardCall) -> Came
         requires ranges { IsCall call }
     {
-        match self.board.call(alloc, 0, 0, call) {
+        match self.manager.call(alloc, 0, 0, call) {
             Ok(Answer::Did(reply)) => Came::Did(reply),
             Ok(Answer::Aborted) => Came::Aborted,
             Err(Memory) => Came::OutOfMemory,
@@ -61,16 +66,16 @@ impl<'d, D: Decider> Day<'d, D> {
 
     /// Begins a change to a version.
     pub fn notify(&mut self, alloc: Global, version: u8) -> Result<u32, NotifyFault> {
-        self.board.notify(alloc, version)
+        self.manager.notify(alloc, version)
     }
 
     /// Lets the first `k` stale slots follow, and answers how many are left.
     pub fn update(&mut self, k: u64) -> u64 {
-        self.board.update(k)
+        self.manager.update(k)
     }
 
     /// Completes the change, or says what it waits for.
     pub fn acknowledge(&mut self) -> Ack {
-        self.board.acknowledge()
+        self.manager.acknowledge()
     }
 }
