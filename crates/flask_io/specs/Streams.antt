@@ -1,5 +1,5 @@
 -- What a read takes from a source, and what a write adds to a sink.
-use Rattle.std.specs.Prelude.{◌≡◌, ◌<◌, ◌≤◌, ◌+◌, ◌-◌, ◌^◌, ℕ, min, List, [], ◌++◌, length, take, Option, option_map, IfSome}
+use Rattle.std.specs.Prelude.{◌≡◌, ◌<◌, ◌≤◌, ◌+◌, ◌-◌, ◌^◌, ℕ, min, List, [], ◌∷◌, ◌++◌, length, take, Option, option_map, IfSome}
 use Rattle.flask_io.specs.declared.source.Got.{Got}
 use Rattle.flask_io.specs.declared.source.Got.TheVariants.{Bytes, End, Failed}
 use Rattle.flask_io.specs.declared.sink.Put.{Put}
@@ -12,6 +12,10 @@ Takes before now taken = before ≡ option_map (λ rest. taken ++ rest) now
 -- what was written now is what was written before and the addition, where a sink tells it
 abbrev pub Adds : Option (List ℕ) → Option (List ℕ) → List ℕ → Type 0
 Adds before now added = now ≡ option_map (λ bytes. bytes ++ added) before
+
+-- what a sink was offered now is what it was offered before and this piece, where it tells it
+abbrev pub Offers : Option (List (List ℕ)) → Option (List (List ℕ)) → List ℕ → Type 0
+Offers before now piece = now ≡ option_map (λ pieces. pieces ++ piece ∷ []) before
 
 -- a read gives from one to as many bytes as the buffer has, the first of those left; or it finds the end, where nothing is left; or it fails, and takes nothing
 abbrev pub Reads : Got → Option (List ℕ) → Option (List ℕ) → List ℕ → Type 0

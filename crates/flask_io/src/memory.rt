@@ -1,6 +1,6 @@
 //! A source and a sink over memory.
 
-ghost use Rattle.std.specs.Prelude.{◌≡◌, ◌<◌, ◌≤◌, [], length, Some};
+ghost use Rattle.std.specs.Prelude.{◌≡◌, ◌<◌, ◌≤◌, [], length, None, Some};
 ghost use Rattle.std.specs.Bool.{OnTrue};
 
 use crate::calls::Calls;
@@ -94,12 +94,14 @@ impl<'a> MemorySink<'a> {
 }
 
 impl<'a> Sink for MemorySink<'a> {
-    ghost use Rattle.flask_io.specs.Streams.{Writes, HasCause};
+    ghost use Rattle.flask_io.specs.Streams.{Writes, Offers, HasCause};
     ghost use Rattle.flask_io.specs.Calls.{one_more, is_due, is_refused};
     ghost use Rattle.flask_io.specs.Memories.{bytes_written, calls_of_sink};
     ghost use Rattle.flask_io.specs.declared.sink.Put.{Put};
 
     ghost written = { λ s. Some (bytes_written s) };
+
+    ghost offered = { λ _. None };
 
     ghost faults = { λ s. (calls_of_sink s).faults };
 
@@ -107,6 +109,7 @@ impl<'a> Sink for MemorySink<'a> {
     fn write(&mut self, piece: &[u8]) -> Put
         requires { 0 < length piece.now }
         ensures writes { Writes result (Some (bytes_written self.old)) (Some (bytes_written self.new)) piece.now }
+        ensures offers { Offers None None piece.now }
         ensures cause { HasCause (calls_of_sink self.old).faults (calls_of_sink self.new).faults (result ≡ Put.Failed) }
         ensures calls { calls_of_sink self.new ≡ one_more (calls_of_sink self.old) (is_refused result) }
         ensures fails { OnTrue (is_due (calls_of_sink self.old)) (result ≡ Put.Failed) }

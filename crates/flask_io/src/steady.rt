@@ -72,11 +72,13 @@ impl SteadySink {
 
 impl Sink for SteadySink {
     ghost use Rattle.std.specs.Prelude.{min, ◌+◌, ◌-◌, ◌^◌};
-    ghost use Rattle.flask_io.specs.Streams.{Writes, HasCause};
+    ghost use Rattle.flask_io.specs.Streams.{Writes, Offers, HasCause};
     ghost use Rattle.flask_io.specs.Steady.{taken_of};
     ghost use Rattle.flask_io.specs.declared.sink.Put.{Put};
 
     ghost written = { λ sink. None };
+
+    ghost offered = { λ _. None };
 
     ghost faults = { λ sink. 0 };
 
@@ -84,6 +86,7 @@ impl Sink for SteadySink {
     fn write(&mut self, piece: &[u8]) -> Put
         requires { 0 < length piece.now }
         ensures writes { Writes result None None piece.now }
+        ensures offers { Offers None None piece.now }
         ensures cause { HasCause 0 0 (result ≡ Put.Failed) }
         ensures steady { result ≡ Put.Failed → ⊥ }
         ensures counts { self.new.taken ≡ min (self.old.taken + taken_of result) (2 ^ 64 - 1) }

@@ -54,6 +54,8 @@ impl<W: Write + Drop> WriterSink<W> {
 impl<W: Write + Drop> Sink for WriterSink<W> {
     ghost written = { λ _. None };
 
+    ghost offered = { λ _. None };
+
     ghost faults = { λ s. s.faults };
 
     fn write(&mut self, piece: &[u8]) -> Put {

@@ -68,6 +68,8 @@ impl Sink for Sips {
 
     ghost written = { λ sips. None };
 
+    ghost offered = { λ sips. None };
+
     ghost faults = { λ sips. sips.faults };
 
     fn write(&mut self, piece: &[u8]) -> Put {

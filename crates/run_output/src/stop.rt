@@ -2,7 +2,7 @@
 
 ghost use Rattle.std.specs.Prelude.{◌≡◌, Err, IfErr, OnOk, OnErr};
 ghost use Rattle.flask_io.specs.Streams.{Adds, HasCause};
-ghost use Rattle.run_output.specs.Writing.{AddsFront};
+ghost use Rattle.run_output.specs.Writing.{AddsFront, OffersWhole};
 ghost use Rattle.run_output.specs.declared.stop.RunStop.{RunStop};
 ghost use Rattle.run_output.specs.declared.stop.RunStop.TheVariants as run_stop;
 
@@ -31,6 +31,7 @@ impl From<Memory> for RunStop {
 pub fn put_line<K: Sink>(sink: &mut K, out: &Text) -> Result<(), RunStop>
     ensures ok { OnOk result (Adds (K.written sink.old) (K.written sink.new) out.now) }
     ensures err { OnErr result (AddsFront (K.written sink.old) (K.written sink.new) out.now) }
+    ensures whole { OffersWhole (K.offered sink.old) (K.offered sink.new) out.now }
     ensures why { IfErr result (λ stop. stop ≡ RunStop.WriteFault) }
     ensures cause { HasCause (K.faults sink.old) (K.faults sink.new) (result ≡ Err RunStop.WriteFault) }
 {

@@ -2,7 +2,7 @@
 
 ghost use Rattle.std.specs.Prelude.{OnOk, OnErr, IsErr};
 ghost use Rattle.flask_io.specs.Streams.{Adds, HasCause};
-ghost use Rattle.run_output.specs.Writing.{AddsFront};
+ghost use Rattle.run_output.specs.Writing.{AddsFront, OffersWhole};
 
 use flask_io::{Put, Sink};
 
@@ -15,6 +15,7 @@ pub struct WriteFault;
 pub fn write_line<K: Sink>(sink: &mut K, line: &[u8]) -> Result<(), WriteFault>
     ensures ok { OnOk result (Adds (K.written sink.old) (K.written sink.new) line.now) }
     ensures err { OnErr result (AddsFront (K.written sink.old) (K.written sink.new) line.now) }
+    ensures whole { OffersWhole (K.offered sink.old) (K.offered sink.new) line.now }
     ensures cause { HasCause (K.faults sink.old) (K.faults sink.new) (IsErr result) }
 {
     let mut rest = line;

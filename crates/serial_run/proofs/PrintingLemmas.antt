@@ -32,13 +32,13 @@ pub record PrintsAll {K : Type 0} (written : K → Option (List ℕ)) (faults : 
   pub gains : Gains printing.log after.log (flat_map (audit_in printing.setting) all)
 
 -- all lines that were taken were printed
-pub printed_all : {K : Type 0} (written : K → Option (List ℕ)) (faults : K → ℕ) (printing after : Printing) (out later : K) (all : List Shown)
-    → TakesAll (Prints written faults) printing out all after later → PrintsAll written faults printing out all after later
-printed_all written faults printing after out later [] taken =
+pub printed_all : {K : Type 0} (written : K → Option (List ℕ)) (offered : K → Option (List (List ℕ))) (faults : K → ℕ) (printing after : Printing) (out later : K) (all : List Shown)
+    → TakesAll (Prints written offered faults) printing out all after later → PrintsAll written faults printing out all after later
+printed_all written offered faults printing after out later [] taken =
     rw (taken.0, taken.1) (record { setting_is = refl; adds = adds_nothing (written out); quiet = refl; gains = gains_nothing printing.log })
-printed_all written faults printing after out later (one ∷ more) taken =
+printed_all written offered faults printing after out later (one ∷ more) taken =
     let took = taken.2 in
-    let rest = printed_all written faults taken.0 after taken.1 later more taken.3 in
+    let rest = printed_all written offered faults taken.0 after taken.1 later more taken.3 in
     record {
       setting_is = rest.setting_is ∙ took.setting_is;
       adds = adds_more (written out) (written taken.1) (written later) (text_in printing.setting one) (flat_map (text_in printing.setting) more) took.adds (rw took.setting_is at rest.adds);
@@ -55,16 +55,16 @@ pub record StopsPrinting {K : Type 0} (written : K → Option (List ℕ)) (fault
   pub adds : AddsFront (written out) (written later) (flat_map (text_in printing.setting) all)
   pub cause : HasCause (faults out) (faults later) (stop ≡ run_stop.WriteFault)
 
-pub printed_front : {K : Type 0} (written : K → Option (List ℕ)) (faults : K → ℕ) (wants : RunStop → Type 0) → ((stop : RunStop) → wants stop → stop ≡ run_stop.Memory)
-    → (printing : Printing) (out later : K) (all : List Shown) (stop : RunStop) → StopsAt (Prints written faults) (StopsPrint written faults) wants printing out all later stop
+pub printed_front : {K : Type 0} (written : K → Option (List ℕ)) (offered : K → Option (List (List ℕ))) (faults : K → ℕ) (wants : RunStop → Type 0) → ((stop : RunStop) → wants stop → stop ≡ run_stop.Memory)
+    → (printing : Printing) (out later : K) (all : List Shown) (stop : RunStop) → StopsAt (Prints written offered faults) (StopsPrint written faults) wants printing out all later stop
     → StopsPrinting written faults printing out all later stop
-printed_front written faults wants memory printing out later [] stop stopped = absurd stopped
-printed_front written faults wants memory printing out later (one ∷ more) stop (inl (later_is, want)) =
+printed_front written offered faults wants memory printing out later [] stop stopped = absurd stopped
+printed_front written offered faults wants memory printing out later (one ∷ more) stop (inl (later_is, want)) =
     rw later_is (record { adds = nothing_put (written out) (flat_map (text_in printing.setting) (one ∷ more)); cause = no_fault (faults out) stop (memory stop want) })
-printed_front written faults wants memory printing out later (one ∷ more) stop (inr (inl at_line)) =
+printed_front written offered faults wants memory printing out later (one ∷ more) stop (inr (inl at_line)) =
     record { adds = cut_first (written out) (written later) (text_in printing.setting one) (flat_map (text_in printing.setting) more) at_line.adds; cause = at_line.cause }
-printed_front written faults wants memory printing out later (one ∷ more) stop (inr (inr (mid, now, took, behind))) =
-    let rest = printed_front written faults wants memory mid now later more stop behind in
+printed_front written offered faults wants memory printing out later (one ∷ more) stop (inr (inr (mid, now, took, behind))) =
+    let rest = printed_front written offered faults wants memory mid now later more stop behind in
     record {
       adds = cut_last (written out) (written now) (written later) (text_in printing.setting one) (flat_map (text_in printing.setting) more) took.adds (rw took.setting_is at rest.adds);
       cause = rw took.quiet at rest.cause;

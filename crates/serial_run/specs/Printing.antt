@@ -3,7 +3,7 @@ use Rattle.std.specs.Prelude.{◌≡◌, ℕ, List, Option}
 use Rattle.audit_log.specs.Logs.{Gains}
 use Rattle.audit_log.specs.declared.audited.AuditLine.{AuditLine}
 use Rattle.flask_io.specs.Streams.{Adds, HasCause}
-use Rattle.run_output.specs.Writing.{AddsFront}
+use Rattle.run_output.specs.Writing.{AddsFront, OffersWhole}
 use Rattle.run_output.specs.declared.setting.Setting.{Setting}
 use Rattle.run_output.specs.declared.stop.RunStop.{RunStop}
 use Rattle.run_output.specs.declared.stop.RunStop.TheVariants as run_stop
@@ -19,10 +19,11 @@ text_in setting one = line_text setting.contexts.now setting.clients.now one
 abbrev pub audit_in : Setting → Shown → List AuditLine
 audit_in setting one = line_audit setting.audited setting.policy.now setting.contexts.now one
 
--- a line was printed: its text was added, its audit lines were logged, and nothing failed
-pub record Prints {K : Type 0} (written : K → Option (List ℕ)) (faults : K → ℕ) (printing : Printing) (out : K) (one : Shown) (after : Printing) (later : K) : Type 0 where
+-- a line was printed: its text was offered whole in one write and was added, its audit lines were logged, and nothing failed
+pub record Prints {K : Type 0} (written : K → Option (List ℕ)) (offered : K → Option (List (List ℕ))) (faults : K → ℕ) (printing : Printing) (out : K) (one : Shown) (after : Printing) (later : K) : Type 0 where
   pub setting_is : after.setting ≡ printing.setting
   pub adds : Adds (written out) (written later) (text_in printing.setting one)
+  pub whole : OffersWhole (offered out) (offered later) (text_in printing.setting one)
   pub quiet : faults later ≡ faults out
   pub gains : Gains printing.log after.log (audit_in printing.setting one)
 

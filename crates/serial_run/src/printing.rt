@@ -46,7 +46,7 @@ impl<'a, K: Sink> Recorder<K> for Printing<'a> {
 
     ghost serves = { λ printing clients. length printing.log ≡ clients };
 
-    ghost takes = { Prints K.written K.faults };
+    ghost takes = { Prints K.written K.offered K.faults };
 
     ghost stops = { StopsPrint K.written K.faults };
 

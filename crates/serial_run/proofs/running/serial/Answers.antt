@@ -25,24 +25,24 @@ returns-in_err-run_lines-clause-err g c =
       audited_is = ap (λ (s : Setting). s.audited) c.in_ok-printing.ensures.setting ∙ is.audit_is;
     } in
     let shown = opened_shown g.D.Decider.decides c.args.decider.now c.args.session opened opened.runner opened.lines.items is refl refl in
-    let front = printed_front g.K.Sink.written g.K.Sink.faults _ (λ stop want. want.1) c.in_ok-printing.printing c.args.sink.now c.run_lines.new.out _ c.in_err-run_lines.field-0.0 c.in_err-run_lines.ensures.stopped in
+    let front = printed_front g.K.Sink.written g.K.Sink.offered g.K.Sink.faults _ (λ stop want. want.1) c.in_ok-printing.printing c.args.sink.now c.run_lines.new.out _ c.in_err-run_lines.field-0.0 c.in_err-run_lines.ensures.stopped in
     on_err_always _ _ (lines_front c.args.session (g.D.Decider.decides c.args.decider.now) c.args.contexts.now c.in_ok-printing.printing.setting _ (g.K.Sink.written c.args.sink.now) (g.K.Sink.written c.run_lines.new.out) setting shown front.adds)
 
 pub returns-in_err-run_lines-clause-cause : goal.returns-in_err-run_lines-clause-cause
 returns-in_err-run_lines-clause-cause g c =
-    let front = printed_front g.K.Sink.written g.K.Sink.faults _ (λ stop want. want.1) c.in_ok-printing.printing c.args.sink.now c.run_lines.new.out _ c.in_err-run_lines.field-0.0 c.in_err-run_lines.ensures.stopped in
+    let front = printed_front g.K.Sink.written g.K.Sink.offered g.K.Sink.faults _ (λ stop want. want.1) c.in_ok-printing.printing c.args.sink.now c.run_lines.new.out _ c.in_err-run_lines.field-0.0 c.in_err-run_lines.ensures.stopped in
     stop_as (g.K.Sink.faults c.args.sink.now) (g.K.Sink.faults c.run_lines.new.out) c.in_err-run_lines.field-0.0 c.from_residual-in_err-run_lines.result c.from_residual-in_err-run_lines.ensures.1 front.cause
 
 pub write_end-written-requires-clause-log : goal.write_end-written-requires-clause-log
 write_end-written-requires-clause-log g c =
-    let printed = printed_all g.K.Sink.written g.K.Sink.faults c.in_ok-printing.printing c.run_lines.new.recorder c.args.sink.now c.run_lines.new.out _ c.in_ok-run_lines.ensures.taken in
+    let printed = printed_all g.K.Sink.written g.K.Sink.offered g.K.Sink.faults c.in_ok-printing.printing c.run_lines.new.recorder c.args.sink.now c.run_lines.new.out _ c.in_ok-run_lines.ensures.taken in
     let count : length c.in_ok-printing.printing.log ≡ length c.as_slice.result.now = ap length c.in_ok-printing.ensures.log ∙ length-replicate (length c.as_slice.result.now) _ in
     ap (λ (s : Setting). length s.clients.now) (printed.setting_is ∙ c.in_ok-printing.ensures.setting) ∙ sym (printed.gains.clients ∙ count)
 
 pub write_end-written-requires-clause-few : goal.write_end-written-requires-clause-few
 write_end-written-requires-clause-few g c =
     let is = c.in_ok-runner.ensures in
-    let printed = printed_all g.K.Sink.written g.K.Sink.faults c.in_ok-printing.printing c.run_lines.new.recorder c.args.sink.now c.run_lines.new.out _ c.in_ok-run_lines.ensures.taken in
+    let printed = printed_all g.K.Sink.written g.K.Sink.offered g.K.Sink.faults c.in_ok-printing.printing c.run_lines.new.recorder c.args.sink.now c.run_lines.new.out _ c.in_ok-run_lines.ensures.taken in
     let count : length c.in_ok-printing.printing.log ≡ length c.as_slice.result.now = ap length c.in_ok-printing.ensures.log ∙ length-replicate (length c.as_slice.result.now) _ in
     rw (printed.gains.clients ∙ count ∙ ap length (c.as_slice.ensures ∙ is.clients_are)) (few_clients c.args.session c.requires.session)
 
@@ -58,7 +58,7 @@ returns-clause-ok g c =
     } in
     let shown = opened_shown g.D.Decider.decides c.args.decider.now c.args.session opened opened.runner opened.lines.items is refl refl in
     let below = c.in_ok-run_lines.ensures.state ∙ opened_below g.D.Decider.decides c.args.decider.now c.args.session opened opened.runner opened.lines.items is refl refl in
-    let printed = printed_all g.K.Sink.written g.K.Sink.faults c.in_ok-printing.printing c.run_lines.new.recorder c.args.sink.now c.run_lines.new.out _ c.in_ok-run_lines.ensures.taken in
+    let printed = printed_all g.K.Sink.written g.K.Sink.offered g.K.Sink.faults c.in_ok-printing.printing c.run_lines.new.recorder c.args.sink.now c.run_lines.new.out _ c.in_ok-run_lines.ensures.taken in
     let old = c.in_ok-printing.ensures.log ∙ sym (ap (λ (s : Setting). replicate (length s.clients.now) []) c.in_ok-printing.ensures.setting) in
     let whole = whole_text c.args.session (g.D.Decider.decides c.args.decider.now) c.args.contexts.now c.in_ok-printing.printing.setting c.run_lines.new.recorder.setting _ c.run_lines.new.self.state
     c.in_ok-printing.printing.log c.run_lines.new.recorder.log c.counts.result.0 c.counts.result.1 c.counts.result.2 setting shown below old printed.gains printed.setting_is c.counts.ensures.calls c.counts.ensures.denied c.counts.ensures.changes in
@@ -77,7 +77,7 @@ returns-clause-err g c =
     } in
     let shown = opened_shown g.D.Decider.decides c.args.decider.now c.args.session opened opened.runner opened.lines.items is refl refl in
     let below = c.in_ok-run_lines.ensures.state ∙ opened_below g.D.Decider.decides c.args.decider.now c.args.session opened opened.runner opened.lines.items is refl refl in
-    let printed = printed_all g.K.Sink.written g.K.Sink.faults c.in_ok-printing.printing c.run_lines.new.recorder c.args.sink.now c.run_lines.new.out _ c.in_ok-run_lines.ensures.taken in
+    let printed = printed_all g.K.Sink.written g.K.Sink.offered g.K.Sink.faults c.in_ok-printing.printing c.run_lines.new.recorder c.args.sink.now c.run_lines.new.out _ c.in_ok-run_lines.ensures.taken in
     let old = c.in_ok-printing.ensures.log ∙ sym (ap (λ (s : Setting). replicate (length s.clients.now) []) c.in_ok-printing.ensures.setting) in
     let whole = whole_text c.args.session (g.D.Decider.decides c.args.decider.now) c.args.contexts.now c.in_ok-printing.printing.setting c.run_lines.new.recorder.setting _ c.run_lines.new.self.state
     c.in_ok-printing.printing.log c.run_lines.new.recorder.log c.counts.result.0 c.counts.result.1 c.counts.result.2 setting shown below old printed.gains printed.setting_is c.counts.ensures.calls c.counts.ensures.denied c.counts.ensures.changes in
@@ -86,5 +86,5 @@ returns-clause-err g c =
 
 pub returns-clause-cause : goal.returns-clause-cause
 returns-clause-cause g c =
-    let printed = printed_all g.K.Sink.written g.K.Sink.faults c.in_ok-printing.printing c.run_lines.new.recorder c.args.sink.now c.run_lines.new.out _ c.in_ok-run_lines.ensures.taken in
+    let printed = printed_all g.K.Sink.written g.K.Sink.offered g.K.Sink.faults c.in_ok-printing.printing c.run_lines.new.recorder c.args.sink.now c.run_lines.new.out _ c.in_ok-run_lines.ensures.taken in
     rw printed.quiet at c.write_end-written.ensures.cause
