@@ -1,10 +1,12 @@
 //! The same work as the proved program of this folder, as a Rust programmer writes it: grants by place, the places of each
 //! pair, and stale places as bits.
 //!
-//! `plain_rights SLOTS STALE ROUNDS` fills SLOTS slots for each of 62 clients, all on objects of one label, and changes the
+//! `plain_rights SLOTS STALE ROUNDS [ordered]` fills SLOTS slots for each of 62 clients, all on objects of one label, and changes the
 //! policy ROUNDS times between two versions that differ on the pairs of the first STALE clients: notice, update of all,
 //! acknowledgement. It prints the nanoseconds of a processor that the changes took, how many slots were stale in all, and how
-//! many may read at the end.
+//! many may read at the end. The pairs stand in a list, from which no slot can be taken without looking at all of them; with `ordered`
+//! they stand in an ordered map from pairs and blocks of 64 places to words, as in the proved program, where a slot is found to be given back.
+use std::collections::BTreeMap;
 use std::env;
 
 const CLIENTS: usize = 62;
@@ -42,9 +44,31 @@ impl Decider {
     }
 }
 
+/// Where the slots of a pair are found.
+enum Index {
+    Listed(Vec<Pair>),
+    Ordered(BTreeMap<u64, u64>),
+}
+
+impl Index {
+    fn add(&mut self, grant: Grant, place: usize) {
+        let Grant { source, target, .. } = grant;
+        match self {
+            Index::Listed(pairs) => match pairs.iter_mut().find(|pair| pair.source == source && pair.target == target) {
+                Some(pair) => pair.places.push(place as u32),
+                None => pairs.push(Pair { source, target, places: vec![place as u32] }),
+            },
+            Index::Ordered(rows) => {
+                let name = u64::from(source) << 12 | u64::from(target);
+                *rows.entry(1024 * name + place as u64 / 64).or_default() |= 1 << (place % 64);
+            }
+        }
+    }
+}
+
 struct Grants {
     held: Vec<Option<Grant>>,
-    pairs: Vec<Pair>,
+    pairs: Index,
     stale: Vec<u64>,
     left: usize,
     phase: Phase,
@@ -53,24 +77,33 @@ struct Grants {
 impl Grants {
     fn add(&mut self, place: usize, grant: Grant) {
         self.held[place] = Some(grant);
-        let found = self.pairs.iter_mut().find(|pair| pair.source == grant.source && pair.target == grant.target);
-        match found {
-            Some(pair) => pair.places.push(place as u32),
-            None => {
-                let Grant { source, target, .. } = grant;
-                self.pairs.push(Pair { source, target, places: vec![place as u32] });
-            }
-        }
+        self.pairs.add(grant, place);
     }
 
     fn notify(&mut self, decider: &Decider, new: usize) {
         let Phase::Settled { number, version: old } = self.phase else { return };
-        for pair in &self.pairs {
-            let before = decider.vector(old, pair.source, pair.target);
-            if before != decider.vector(new, pair.source, pair.target) {
-                for &place in &pair.places {
-                    self.stale[place as usize / 64] |= 1 << (place % 64);
-                    self.left += 1;
+        match &self.pairs {
+            Index::Listed(pairs) => {
+                for pair in pairs {
+                    if decider.vector(old, pair.source, pair.target) != decider.vector(new, pair.source, pair.target) {
+                        for &place in &pair.places {
+                            self.stale[place as usize / 64] |= 1 << (place % 64);
+                            self.left += 1;
+                        }
+                    }
+                }
+            }
+            Index::Ordered(rows) => {
+                let mut asked = (u64::MAX, false);
+                for (&key, &word) in rows {
+                    if asked.0 != key / 1024 {
+                        let (source, target) = ((key >> 22) as u16, (key >> 10 & 4095) as u16);
+                        asked = (key / 1024, decider.vector(old, source, target) != decider.vector(new, source, target));
+                    }
+                    if asked.1 {
+                        self.stale[(key % 1024) as usize] |= word;
+                        self.left += word.count_ones() as usize;
+                    }
                 }
             }
         }
@@ -105,10 +138,10 @@ impl Grants {
     }
 }
 
-fn opened(slots: usize, decider: &Decider) -> Grants {
+fn opened(slots: usize, decider: &Decider, is_ordered: bool) -> Grants {
     let mut grants = Grants {
         held: vec![None; 256 * CLIENTS],
-        pairs: Vec::new(),
+        pairs: if is_ordered { Index::Ordered(BTreeMap::new()) } else { Index::Listed(Vec::new()) },
         stale: vec![0; 4 * CLIENTS],
         left: 0,
         phase: Phase::Settled { number: 0, version: 0 },
@@ -142,7 +175,7 @@ fn main() {
     let words: Vec<usize> = env::args().skip(1).filter_map(|word| word.parse().ok()).collect();
     let [slots, stale, rounds] = words[..] else { return };
     let decider = Decider { stale: stale as u16 };
-    let mut grants = opened(slots, &decider);
+    let mut grants = opened(slots, &decider, env::args().any(|word| word == "ordered"));
     let begun = clock();
     let mut sum = 0u64;
     for round in 0..rounds {
