@@ -73,7 +73,7 @@ def shown(figures):
 
 
 def print_times(programs, runs):
-    timing.head("piece of work", "threads", "proved", "plain Rust", "ratio")
+    timing.head("piece of work", "threads", "proved, best / median, ns a piece (runs)", "plain Rust", "ratio of medians")
     for work, name, pieces in WORKS:
         for threads in (1, 2, 4):
             proved, plain = times(programs, work, pieces, threads, runs)
@@ -84,7 +84,7 @@ def print_instructions(programs):
     if shutil.which("valgrind") is None:
         print("Instructions were not counted: there is no valgrind.")
         return
-    timing.head("piece of work", "instructions, proved", "instructions, plain", "ratio")
+    timing.head("piece of work", "proved, instructions a piece", "plain Rust", "ratio of instructions")
     for work, name, pieces in WORKS:
         proved, plain = instructions(programs.proved, work, pieces), instructions(programs.plain, work, pieces)
         timing.row(name, f"{proved:.1f}", f"{plain:.1f}", f"{proved / plain:.2f}")

@@ -21,7 +21,7 @@ def rounds_of(slots, stale):
 
 def measure(programs, asked):
     head = ("slots of a client", "pairs that differ", "open slots", "stale slots")
-    timing.head(*head, "proved, best / median, µs", "plain Rust", "ratio of medians", "plain Rust with an ordered map", "ratio")
+    timing.head(*head, "proved, best / median, µs", "plain Rust", "ratio of medians", "plain Rust with an ordered map", "ratio of medians to that")
     for slots in SLOTS:
         for stale in STALE:
             rounds = rounds_of(slots, stale)

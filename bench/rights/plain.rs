@@ -44,37 +44,81 @@ impl Decider {
     }
 }
 
-/// Where the slots of a pair are found.
-enum Index {
-    Listed(Vec<Pair>),
-    Ordered(BTreeMap<u64, u64>),
+/// Where the slots of each pair are found.
+trait Index: Default {
+    fn add(&mut self, grant: Grant, place: usize);
+
+    /// Marks the places on pairs whose vectors differ in two versions, and answers how many they are.
+    fn mark(&self, decider: &Decider, old: usize, new: usize, stale: &mut [u64]) -> usize;
 }
 
-impl Index {
+/// A list, in which a pair is found by looking at all.
+#[derive(Default)]
+struct Listed(Vec<Pair>);
+
+impl Index for Listed {
     fn add(&mut self, grant: Grant, place: usize) {
-        let Grant { source, target, .. } = grant;
-        match self {
-            Index::Listed(pairs) => match pairs.iter_mut().find(|pair| pair.source == source && pair.target == target) {
-                Some(pair) => pair.places.push(place as u32),
-                None => pairs.push(Pair { source, target, places: vec![place as u32] }),
-            },
-            Index::Ordered(rows) => {
-                let name = u64::from(source) << 12 | u64::from(target);
-                *rows.entry(1024 * name + place as u64 / 64).or_default() |= 1 << (place % 64);
+        let found = self.0.iter_mut().find(|pair| pair.source == grant.source && pair.target == grant.target);
+        match found {
+            Some(pair) => pair.places.push(place as u32),
+            None => {
+                let Grant { source, target, .. } = grant;
+                self.0.push(Pair { source, target, places: vec![place as u32] });
             }
         }
     }
+
+    fn mark(&self, decider: &Decider, old: usize, new: usize, stale: &mut [u64]) -> usize {
+        let mut left = 0;
+        for pair in &self.0 {
+            let before = decider.vector(old, pair.source, pair.target);
+            if before != decider.vector(new, pair.source, pair.target) {
+                for &place in &pair.places {
+                    stale[place as usize / 64] |= 1 << (place % 64);
+                    left += 1;
+                }
+            }
+        }
+        left
+    }
 }
 
-struct Grants {
+/// An ordered map from pairs and blocks of 64 places to words of places.
+#[derive(Default)]
+struct Ordered(BTreeMap<u64, u64>);
+
+impl Index for Ordered {
+    fn add(&mut self, grant: Grant, place: usize) {
+        let pair = u64::from(grant.source) << 12 | u64::from(grant.target);
+        *self.0.entry(1024 * pair + place as u64 / 64).or_default() |= 1 << (place % 64);
+    }
+
+    fn mark(&self, decider: &Decider, old: usize, new: usize, stale: &mut [u64]) -> usize {
+        let (mut asked, mut differs, mut left) = (u64::MAX, false, 0);
+        for (&key, &word) in &self.0 {
+            if asked != key / 1024 {
+                asked = key / 1024;
+                let (source, target) = ((asked >> 12) as u16, (asked & 4095) as u16);
+                differs = decider.vector(old, source, target) != decider.vector(new, source, target);
+            }
+            if differs {
+                stale[(key % 1024) as usize] |= word;
+                left += word.count_ones() as usize;
+            }
+        }
+        left
+    }
+}
+
+struct Grants<I> {
     held: Vec<Option<Grant>>,
-    pairs: Index,
+    pairs: I,
     stale: Vec<u64>,
     left: usize,
     phase: Phase,
 }
 
-impl Grants {
+impl<I: Index> Grants<I> {
     fn add(&mut self, place: usize, grant: Grant) {
         self.held[place] = Some(grant);
         self.pairs.add(grant, place);
@@ -82,31 +126,7 @@ impl Grants {
 
     fn notify(&mut self, decider: &Decider, new: usize) {
         let Phase::Settled { number, version: old } = self.phase else { return };
-        match &self.pairs {
-            Index::Listed(pairs) => {
-                for pair in pairs {
-                    if decider.vector(old, pair.source, pair.target) != decider.vector(new, pair.source, pair.target) {
-                        for &place in &pair.places {
-                            self.stale[place as usize / 64] |= 1 << (place % 64);
-                            self.left += 1;
-                        }
-                    }
-                }
-            }
-            Index::Ordered(rows) => {
-                let mut asked = (u64::MAX, false);
-                for (&key, &word) in rows {
-                    if asked.0 != key / 1024 {
-                        let (source, target) = ((key >> 22) as u16, (key >> 10 & 4095) as u16);
-                        asked = (key / 1024, decider.vector(old, source, target) != decider.vector(new, source, target));
-                    }
-                    if asked.1 {
-                        self.stale[(key % 1024) as usize] |= word;
-                        self.left += word.count_ones() as usize;
-                    }
-                }
-            }
-        }
+        self.left += self.pairs.mark(decider, old, new, &mut self.stale);
         self.phase = Phase::Pending { number: number + 1, new };
     }
 
@@ -138,10 +158,10 @@ impl Grants {
     }
 }
 
-fn opened(slots: usize, decider: &Decider, is_ordered: bool) -> Grants {
+fn opened<I: Index>(slots: usize, decider: &Decider) -> Grants<I> {
     let mut grants = Grants {
         held: vec![None; 256 * CLIENTS],
-        pairs: if is_ordered { Index::Ordered(BTreeMap::new()) } else { Index::Listed(Vec::new()) },
+        pairs: I::default(),
         stale: vec![0; 4 * CLIENTS],
         left: 0,
         phase: Phase::Settled { number: 0, version: 0 },
@@ -171,11 +191,9 @@ fn clock() -> u64 {
     time.seconds as u64 * 1_000_000_000 + time.nanoseconds as u64
 }
 
-fn main() {
-    let words: Vec<usize> = env::args().skip(1).filter_map(|word| word.parse().ok()).collect();
-    let [slots, stale, rounds] = words[..] else { return };
+fn changed<I: Index>(slots: usize, stale: usize, rounds: usize) {
     let decider = Decider { stale: stale as u16 };
-    let mut grants = opened(slots, &decider, env::args().any(|word| word == "ordered"));
+    let mut grants: Grants<I> = opened(slots, &decider);
     let begun = clock();
     let mut sum = 0u64;
     for round in 0..rounds {
@@ -187,4 +205,14 @@ fn main() {
     let took = clock() - begun;
     let usable = grants.held.iter().flatten().filter(|grant| grant.bits == READ).count();
     println!("{took} {sum} {usable}");
+}
+
+fn main() {
+    let words: Vec<usize> = env::args().skip(1).filter_map(|word| word.parse().ok()).collect();
+    let [slots, stale, rounds] = words[..] else { return };
+    if env::args().any(|word| word == "ordered") {
+        changed::<Ordered>(slots, stale, rounds);
+    } else {
+        changed::<Listed>(slots, stale, rounds);
+    }
 }

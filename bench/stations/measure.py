@@ -26,7 +26,7 @@ WORKS = (
 
 def measure(programs, asked):
     print("Nanoseconds of a processor for one piece, in the best run / the median run:\n")
-    timing.head("piece of work", "threads", "proved", "plain Rust", "ratio")
+    timing.head("piece of work", "threads", "proved, best / median, ns a piece", "plain Rust", "ratio of medians")
     for work, name, threads, rounds, pieces in WORKS:
         proved, plain = timing.both(programs, (work, rounds), threads * rounds * pieces, asked.runs)
         timing.row(name, threads, timing.shown(proved, digits=1), timing.shown(plain, digits=1), timing.ratio(proved, plain))
