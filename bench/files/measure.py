@@ -41,12 +41,24 @@ def made(count):
     return [f"create {path}" for path in paths] + [f"unlink {path}" for path in paths]
 
 
+def full():
+    """A file that is filled, and then a write into it."""
+    return ["open 0 /f rw", *(f"write 0 {1024 * at} {1024 * 'd'}" for at in range(64)), "write 0 60000 " + 16 * "w"]
+
+
+def appended():
+    """A file that grows by 4,000 appends, and is taken away."""
+    return ["create /g", "open 0 /g rwa", *(["append 0 " + 16 * "a"] * 4_000), "close 0", "unlink /g"]
+
+
 # what is measured: its name, the session, how many of its calls are done once, and how often the others are done
 CASES = (
     ("open through 16 parts, and close", session(deep_nodes(), opens([DEEP[-1]])), 0, 100_000),
     ("open of a name in the root, and close", session([("file", "/f", " x")], opens(["/f"])), 0, 200_000),
     ("read of 16 bytes through a slot", session(deep_nodes(), [f"open 0 {DEEP[-1]} rw", "read 0 0 16"]), 1, 400_000),
     ("write of 16 bytes through a slot, into 64", session(deep_nodes(), [f"open 0 {DEEP[-1]} rw", "write 0 0 " + 16 * "w"]), 1, 200_000),
+    ("write of 16 bytes through a slot, into 65,536", session([("file", "/f", " x")], full()), 65, 200_000),
+    ("append of 16 bytes, up to 64,000", session([("file", "/f", " x")], appended()), 0, 40),
     ("open in a directory of 40 entries, and close", session(many_nodes(40), opens(many(40))), 0, 4_000),
     ("open in a directory of 400 entries, and close", session(many_nodes(400), opens(many(400))), 0, 400),
     ("open in a directory of 4,000 entries, and close", session(many_nodes(4_000), opens(many(4_000))), 0, 40),

@@ -53,6 +53,7 @@ enum Call {
     Open(usize, Vec<Vec<u8>>, u16),
     Read(usize, usize, usize),
     Write(usize, usize, Vec<u8>),
+    Append(usize, Vec<u8>),
     Close(usize),
 }
 
@@ -197,6 +198,15 @@ impl Files {
         Some(Reply::Done)
     }
 
+    fn append(&mut self, s: u16, at: usize, piece: &[u8]) -> Option<Reply> {
+        let bytes = self.used(s, at, 2)?.bytes.as_mut()?;
+        if bytes.len() + piece.len() > 65_536 {
+            return None;
+        }
+        bytes.extend_from_slice(piece);
+        Some(Reply::Done)
+    }
+
     fn call(&mut self, client: usize, call: &Call) -> Reply {
         self.asked = Vec::new();
         let s = self.clients[client];
@@ -206,6 +216,7 @@ impl Files {
             Call::Open(slot, path, mode) => self.open(s, 64 * client + slot, path, *mode),
             Call::Read(slot, offset, most) => self.read(s, 64 * client + slot, *offset, *most),
             Call::Write(slot, offset, piece) => self.write(s, 64 * client + slot, *offset, piece),
+            Call::Append(slot, piece) => self.append(s, 64 * client + slot, piece),
             Call::Close(slot) => self.slots[64 * client + slot].take().map(|_| Reply::Done),
         };
         reply.unwrap_or(Reply::Refused)
@@ -228,6 +239,7 @@ fn call(words: &[&str]) -> Option<Call> {
         "open" => Call::Open(number(1)?, names(words[2]), mode(words[3])),
         "read" => Call::Read(number(1)?, number(2)?, number(3)?),
         "write" => Call::Write(number(1)?, number(2)?, words[3].as_bytes().to_vec()),
+        "append" => Call::Append(number(1)?, words[2].as_bytes().to_vec()),
         "close" => Call::Close(number(1)?),
         _ => return None,
     })
