@@ -17,6 +17,7 @@ use policy_model::{
 };
 use std::alloc::Global;
 use std::marker::Model;
+use std::mem::replace;
 use text_lines::{WordIndex, Words};
 
 pub const CONTEXT_LIMIT: usize = 4_095;
@@ -323,25 +324,30 @@ impl<'a> Draft<'a> {
     }
 
     /// Gives the newest version one rule line more.
-    pub(crate) fn add_rule(&mut self, rule: RuleLine) -> Result<(), Memory>
+    pub(crate) fn add_rule(&mut self, alloc: Global, rule: RuleLine) -> Result<(), Memory>
         ensures { OnOk result (self.new ≡ record self.old { versions = Grammar.with_rule rule self.old.versions }) }
     {
-        add_rule(rule, &mut self.policy.versions)
+        add_rule(alloc, rule, &mut self.policy.versions)
     }
 }
 
-// Gives the newest version one rule line more.
-fn add_rule(rule: RuleLine, versions: &mut Rows<Version>) -> Result<(), Memory>
+// Gives the newest version one rule line more. Meanwhile the list is a vector, whose last member changes where it stands.
+fn add_rule(alloc: Global, rule: RuleLine, versions: &mut Rows<Version>) -> Result<(), Memory>
     ensures { OnOk result (versions.new ≡ Grammar.with_rule rule versions.old) }
 {
-    match versions.pop() {
-        None => Ok(()),
-        Some(mut newest) => {
-            newest.rules.push(rule)?;
-            versions.push(newest)?;
-            Ok(())
-        }
-    }
+    let mut changed = replace(versions, Rows::new(alloc)).into_vec();
+    let added = add_to_last(rule, &mut changed);
+    *versions = Rows::from_vec(changed);
+    added
+}
+
+fn add_to_last(rule: RuleLine, versions: &mut Vec<Version>) -> Result<(), Memory>
+    ensures { OnOk result (versions.new.items ≡ Grammar.with_rule rule versions.old.items) }
+{
+    let Some(newest) = versions.last_mut() else {
+        return Ok(());
+    };
+    newest.rules.push(rule)
 }
 
 fn kept_names(alloc: Global, words: Words<'_>) -> Result<Rows<Name>, Memory>

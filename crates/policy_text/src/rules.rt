@@ -45,7 +45,7 @@ pub(crate) fn plain_read<'a>(
     match policy.plain_rule(alloc, line, decision, words)? {
         None => Ok(false),
         Some(rule) => {
-            policy.add_rule(rule)?;
+            policy.add_rule(alloc, rule)?;
             Ok(true)
         }
     }
@@ -69,7 +69,7 @@ pub(crate) fn decided_read<'a>(
         return Err(Refusal::Fault(FaultKind::Limit));
     }
     let pattern = policy.pattern(alloc, line, words)?;
-    policy.add_rule(deciding_rule(decision, pattern))?;
+    policy.add_rule(alloc, deciding_rule(decision, pattern))?;
     Ok(())
 }
 
@@ -91,6 +91,6 @@ pub(crate) fn labelled_read<'a>(
         return Err(Refusal::Fault(FaultKind::Limit));
     }
     let rule = policy.labelling_rule(alloc, line, labelling, &words)?;
-    policy.add_rule(rule)?;
+    policy.add_rule(alloc, rule)?;
     Ok(())
 }

@@ -147,10 +147,24 @@ fn refused_at(line: u32, refusal: Refusal) -> TextFault
 fn is_session_line(line: &Line<'_>) -> bool
     ensures { result ≡ Reading.is_session_line line.now }
 {
+    if begins_otherwise(line.as_bytes()) {
+        return false;
+    }
     let mut words = Words::new(line.as_bytes());
     match words.next() {
         None => false,
         Some(first) => first.is(b"session"),
+    }
+}
+
+// Whether the first byte of a line tells that it is no session line, so that the first word of a rule line is not cut for that.
+#[tactic(auto, using(crate::proofs::SessionLineLemmas::begins_other))]
+fn begins_otherwise(bytes: &[u8]) -> bool
+    ensures { IsTrue result → Reading.is_session_line bytes.now ≡ false }
+{
+    match bytes {
+        [first, ..] => matches!(*first, b'a'..=b'r' | b't'..=b'z'),
+        [] => false,
     }
 }
 
