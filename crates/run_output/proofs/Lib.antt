@@ -1,3 +1,4 @@
 pub mod WritingLemmas
 pub mod Outcomes
 pub mod PartLemmas
+pub mod GatherLemmas

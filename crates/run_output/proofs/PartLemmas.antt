@@ -44,7 +44,7 @@ part_more text xs i x within is =
     ap (flat_map text) one ∙ flat_map-append text (take i xs) (x ∷ []) ∙ ap (λ t. flat_map text (take i xs) ++ t) (append-nil (text x))
 
 -- what all write, by what the first ones write
-all_parts : {X : Type 0} (text : X → List ℕ) (xs : List X) (i : ℕ) → flat_map text xs ≡ flat_map text (take i xs) ++ flat_map text (drop i xs)
+pub all_parts : {X : Type 0} (text : X → List ℕ) (xs : List X) (i : ℕ) → flat_map text xs ≡ flat_map text (take i xs) ++ flat_map text (drop i xs)
 all_parts text xs i = ap (flat_map text) (sym (take-append-drop i xs)) ∙ flat_map-append text (take i xs) (drop i xs)
 
 -- what the first members wrote is a front of what all write

@@ -8,6 +8,7 @@ ghost use Rattle.run_output.specs.Logged;
 ghost use Rattle.run_output.specs.Writing.{AddsFront};
 ghost use Rattle.run_output.specs.declared.stop.RunStop.{RunStop};
 
+use crate::gathering::put_gathered;
 use crate::stop::{RunStop, put_line};
 use audit_log::{AuditLine, AuditLog, put_text};
 use flask_io::Sink;
@@ -15,7 +16,7 @@ use flask_sid::{SidTable, Text};
 use session_text::ClientLine;
 use std::alloc::Global;
 
-/// Writes audit lines of a client of that name, each in a write of its own.
+/// Writes audit lines of a client of that name, many in one write.
 fn write_client<K: Sink>(
     alloc: Global,
     contexts: &SidTable,
@@ -29,11 +30,10 @@ fn write_client<K: Sink>(
 {
     let mut out = Text::new(alloc);
     'lines: for line in lines {
-        out.clear();
         put_text(&mut out, line, contexts, name)?;
-        put_line(sink, &out)?;
+        put_gathered(sink, &mut out)?;
     }
-    Ok(())
+    put_line(sink, &out)
 }
 
 /// Writes the audit lines of clients, of whom the first has that number, client by client.

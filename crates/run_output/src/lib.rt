@@ -1,12 +1,14 @@
-//! What a run writes: its lines, each in a write of its own, the audit lines of a log, and how it stops; and what it knows of its
+//! What a run writes: its lines, each whole in one write, the audit lines of a log, and how it stops; and what it knows of its
 //! session.
 #![tactic(auto)]
 
 mod auditing;
+mod gathering;
 mod setting;
 mod stop;
 mod writing;
 
 pub use auditing::write_audit;
+pub use gathering::put_gathered;
 pub use setting::Setting;
 pub use stop::{RunStop, put_line};

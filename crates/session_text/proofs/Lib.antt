@@ -8,3 +8,4 @@ pub mod PlaceLemmas
 pub mod LineLemmas
 pub mod ReadingLemmas
 pub mod IndexLemmas
+pub mod SessionLineLemmas

@@ -1,6 +1,6 @@
 //! Reading a session text to its end: its policy, its session lines, and the lines that run.
 
-ghost use Rattle.std.specs.Prelude.{◌≡◌, ◌∷◌, ◌≤◌, true, IfOk, OnOk};
+ghost use Rattle.std.specs.Prelude.{◌≡◌, ◌∷◌, ◌≤◌, true, false, IsTrue, IfOk, OnOk};
 ghost use Rattle.text_lines.specs.Refusals.{GivesText};
 ghost use Rattle.text_lines.specs.declared.fault.TextFault.TheVariants as text_fault;
 ghost use Rattle.policy_text.specs.Reading.{IsRefusedAt};
@@ -157,13 +157,12 @@ fn is_session_line(line: &Line<'_>) -> bool
     }
 }
 
-// Whether the first byte of a line tells that it is no session line, so that the first word of a rule line is not cut for that.
-#[tactic(auto, using(crate::proofs::SessionLineLemmas::begins_other))]
+// Whether the first byte of a line tells that it is no session line. So the first word of a rule line is not cut for that.
 fn begins_otherwise(bytes: &[u8]) -> bool
     ensures { IsTrue result → Reading.is_session_line bytes.now ≡ false }
 {
     match bytes {
-        [first, ..] => matches!(*first, b'a'..=b'r' | b't'..=b'z'),
+        [first, ..] => first.is_ascii_lowercase() && *first != b's',
         [] => false,
     }
 }

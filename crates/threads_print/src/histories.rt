@@ -18,7 +18,7 @@ use history_text::{put_entry, put_heading};
 use manager_history::Entry;
 use port_calls::{PortCall, PortReply};
 use process_calls::{ProcessCall, ProcessReply};
-use run_output::{RunStop, Setting, put_line};
+use run_output::{RunStop, Setting, put_gathered, put_line};
 use session_forms::Manager;
 use std::alloc::Global;
 
@@ -41,7 +41,7 @@ fn write_heading<K: Sink>(alloc: Global, manager: Manager, sink: &mut K) -> Resu
     put_line(sink, &out)
 }
 
-/// Writes the line of each entry of a manager's history, each in a write of its own.
+/// Writes the line of each entry of a manager's history, many in one write.
 fn write_entries<C, R: Worded, K: Sink>(
     alloc: Global,
     setting: &Setting<'_>,
@@ -57,11 +57,10 @@ fn write_entries<C, R: Worded, K: Sink>(
 {
     let mut out = Text::new(alloc);
     'entries: for entry in history {
-        out.clear();
         put_entry(&mut out, setting.contexts, setting.clients, manager, entry)?;
-        put_line(sink, &out)?;
+        put_gathered(sink, &mut out)?;
     }
-    Ok(())
+    put_line(sink, &out)
 }
 
 /// Writes a manager's history: the line above its entries, and the line of each. Where it stops before, a front of the text was
