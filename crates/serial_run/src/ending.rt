@@ -31,7 +31,7 @@ pub(crate) fn write_counts<K: Sink>(
     put_line(sink, &out)
 }
 
-/// Writes the audit lines that were logged, client by client, and the summary.
+/// Writes the answers that wait, the audit lines that were logged, client by client, and the summary.
 pub(crate) fn write_end<K: Sink>(
     alloc: Global,
     printing: &Printing<'_>,
@@ -41,11 +41,12 @@ pub(crate) fn write_end<K: Sink>(
     requires log { length printing.now.setting.clients.now ≡ length printing.now.log }
     requires few { length printing.now.log ≤ 62 }
     ensures ok { OnOk result (Adds (K.written sink.old) (K.written sink.new)
-        (logged_text printing.now.setting.contexts.now printing.now.log 0 printing.now.setting.clients.now ++ ended (summary_words counts.0 counts.1 counts.2))) }
+        (printing.now.gathered ++ (logged_text printing.now.setting.contexts.now printing.now.log 0 printing.now.setting.clients.now ++ ended (summary_words counts.0 counts.1 counts.2)))) }
     ensures err { OnErr result (AddsFront (K.written sink.old) (K.written sink.new)
-        (logged_text printing.now.setting.contexts.now printing.now.log 0 printing.now.setting.clients.now ++ ended (summary_words counts.0 counts.1 counts.2))) }
+        (printing.now.gathered ++ (logged_text printing.now.setting.contexts.now printing.now.log 0 printing.now.setting.clients.now ++ ended (summary_words counts.0 counts.1 counts.2)))) }
     ensures cause { HasCause (K.faults sink.old) (K.faults sink.new) (result ≡ Err RunStop.WriteFault) }
 {
+    put_line(sink, &printing.gathered)?;
     let setting = &printing.setting;
     write_audit(
         alloc,

@@ -10,16 +10,17 @@ use audit_log::{Acting, AuditLog};
 use flask_io::Sink;
 use flask_sid::{Memory, Text};
 use line_text::put_answer;
-use run_output::{RunStop, Setting, put_line};
+use run_output::{RunStop, Setting, put_gathered};
 use session_runner::{Caller, LineOutcome, Recorder};
 use std::alloc::Global;
 
-/// Writes what each line came to, in a write of its own, and logs its audit lines where they are printed.
+/// Writes what the lines came to, many in one write, and logs their audit lines where they are printed.
 #[derive(Drop)]
 pub(crate) struct Printing<'a> {
     pub(crate) setting: Setting<'a>,
     pub(crate) log: AuditLog,
-    line: Text,
+    /// The answers that wait for a write.
+    pub(crate) gathered: Text,
 }
 
 impl<'a> Printing<'a> {
@@ -28,12 +29,13 @@ impl<'a> Printing<'a> {
         requires { length setting.clients.now < 256 }
         ensures setting { IfOk result (λ printing. printing.setting ≡ setting.entry) }
         ensures log { IfOk result (λ printing. printing.log ≡ replicate (length setting.entry.clients.now) []) }
+        ensures gathered { IfOk result (λ printing. printing.gathered ≡ []) }
     {
         let log = AuditLog::new(alloc, setting.clients.len() as u8)?;
         Ok(Printing {
             setting,
             log,
-            line: Text::new(alloc),
+            gathered: Text::new(alloc),
         })
     }
 }
@@ -58,10 +60,9 @@ impl<'a, K: Sink> Recorder<K> for Printing<'a> {
             caller,
         } = outcome;
         let (contexts, clients) = (self.setting.contexts, self.setting.clients);
-        self.line.clear();
-        put_answer(&mut self.line, contexts, clients, line, &answer)?;
+        put_answer(&mut self.gathered, contexts, clients, line, &answer)?;
         log_call(&self.setting, &mut self.log, line, caller, asked)?;
-        put_line(sink, &self.line)
+        put_gathered(sink, &mut self.gathered)
     }
 }
 

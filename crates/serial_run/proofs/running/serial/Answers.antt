@@ -3,8 +3,8 @@ use Rattle.std.specs.Prelude.{replicate}
 use Rattle.std.proofs.lemmas.List.{length-replicate}
 use Rattle.run_output.specs.declared.setting.Setting.{Setting}
 use Rattle.run_output.proofs.Outcomes.{on_ok, on_err, on_err_always}
-use Rattle.run_output.proofs.PartLemmas.{cut_last}
-use Rattle.run_output.proofs.WritingLemmas.{adds_more}
+use Rattle.run_output.proofs.GatherLemmas.{gathers}
+use Rattle.run_output.proofs.WritingLemmas.{all_written, last_failed}
 use Rattle.session_runner.proofs.OpeningLemmas.{opened_shown, opened_below}
 use Rattle.session_text.proofs.SessionLemmas.{few_clients}
 use Rattle.serial_run.proofs.PrintingLemmas.{nothing_put, printed_all, printed_front, stop_as}
@@ -26,7 +26,7 @@ returns-in_err-run_lines-clause-err g c =
     } in
     let shown = opened_shown g.D.Decider.decides c.args.decider.now c.args.session opened opened.runner opened.lines.items is refl refl in
     let front = printed_front g.K.Sink.written g.K.Sink.offered g.K.Sink.faults _ (λ stop want. want.1) c.in_ok-printing.printing c.args.sink.now c.run_lines.new.out _ c.in_err-run_lines.field-0.0 c.in_err-run_lines.ensures.stopped in
-    on_err_always _ _ (lines_front c.args.session (g.D.Decider.decides c.args.decider.now) c.args.contexts.now c.in_ok-printing.printing.setting _ (g.K.Sink.written c.args.sink.now) (g.K.Sink.written c.run_lines.new.out) setting shown front.adds)
+    on_err_always _ _ (lines_front c.args.session (g.D.Decider.decides c.args.decider.now) c.args.contexts.now c.in_ok-printing.printing.setting _ (g.K.Sink.written c.args.sink.now) (g.K.Sink.written c.run_lines.new.out) setting shown (rw c.in_ok-printing.ensures.gathered at front.adds))
 
 pub returns-in_err-run_lines-clause-cause : goal.returns-in_err-run_lines-clause-cause
 returns-in_err-run_lines-clause-cause g c =
@@ -62,8 +62,9 @@ returns-clause-ok g c =
     let old = c.in_ok-printing.ensures.log ∙ sym (ap (λ (s : Setting). replicate (length s.clients.now) []) c.in_ok-printing.ensures.setting) in
     let whole = whole_text c.args.session (g.D.Decider.decides c.args.decider.now) c.args.contexts.now c.in_ok-printing.printing.setting c.run_lines.new.recorder.setting _ c.run_lines.new.self.state
     c.in_ok-printing.printing.log c.run_lines.new.recorder.log c.counts.result.0 c.counts.result.1 c.counts.result.2 setting shown below old printed.gains printed.setting_is c.counts.ensures.calls c.counts.ensures.denied c.counts.ensures.changes in
+    let waits = gathers (g.K.Sink.written c.args.sink.now) (g.K.Sink.written c.run_lines.new.out) _ c.run_lines.new.recorder.gathered _ (rw c.in_ok-printing.ensures.gathered at printed.adds) in
     rw whole
-    (on_ok c.write_end-written.result _ _ (λ last. adds_more (g.K.Sink.written c.args.sink.now) (g.K.Sink.written c.run_lines.new.out) (g.K.Sink.written c.write_end-written.new.sink) _ _ printed.adds last) c.write_end-written.ensures.ok)
+    (on_ok c.write_end-written.result _ _ (λ last. all_written (g.K.Sink.written c.args.sink.now) (g.K.Sink.written c.run_lines.new.out) (g.K.Sink.written c.write_end-written.new.sink) _ _ waits last) c.write_end-written.ensures.ok)
 
 pub returns-clause-err : goal.returns-clause-err
 returns-clause-err g c =
@@ -81,8 +82,9 @@ returns-clause-err g c =
     let old = c.in_ok-printing.ensures.log ∙ sym (ap (λ (s : Setting). replicate (length s.clients.now) []) c.in_ok-printing.ensures.setting) in
     let whole = whole_text c.args.session (g.D.Decider.decides c.args.decider.now) c.args.contexts.now c.in_ok-printing.printing.setting c.run_lines.new.recorder.setting _ c.run_lines.new.self.state
     c.in_ok-printing.printing.log c.run_lines.new.recorder.log c.counts.result.0 c.counts.result.1 c.counts.result.2 setting shown below old printed.gains printed.setting_is c.counts.ensures.calls c.counts.ensures.denied c.counts.ensures.changes in
+    let waits = gathers (g.K.Sink.written c.args.sink.now) (g.K.Sink.written c.run_lines.new.out) _ c.run_lines.new.recorder.gathered _ (rw c.in_ok-printing.ensures.gathered at printed.adds) in
     rw whole
-    (on_err c.write_end-written.result _ _ (λ last. cut_last (g.K.Sink.written c.args.sink.now) (g.K.Sink.written c.run_lines.new.out) (g.K.Sink.written c.write_end-written.new.sink) _ _ printed.adds last) c.write_end-written.ensures.err)
+    (on_err c.write_end-written.result _ _ (λ last. last_failed (g.K.Sink.written c.args.sink.now) (g.K.Sink.written c.run_lines.new.out) (g.K.Sink.written c.write_end-written.new.sink) _ _ waits last) c.write_end-written.ensures.err)
 
 pub returns-clause-cause : goal.returns-clause-cause
 returns-clause-cause g c =

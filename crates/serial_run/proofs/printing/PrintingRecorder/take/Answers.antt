@@ -1,8 +1,7 @@
-use Rattle.std.proofs.Common.{◌∙◌, refl}
 use Rattle.serial_run.proofs.PrintingLemmas.{stops_at_line}
 use Rattle.serial_run.proofs.printing.PrintingRecorder.take.Goals as goal
 
 pub returns-clause-stopped : goal.returns-clause-stopped
 returns-clause-stopped g c =
-    stops_at_line g.K.Sink.written g.K.Sink.faults c.args.self.now c.args.sink.now c.put_line.new.sink _ c.put_line.result c.put_answer.new.out
-    (c.in_ok-put_answer.ensures ∙ rw c.clear.ensures refl) c.put_line.ensures.err c.put_line.ensures.cause
+    stops_at_line g.K.Sink.written g.K.Sink.faults c.args.self.now c.args.sink.now c.put_gathered.new.sink _ c.put_gathered.result c.put_answer.new.out
+    c.in_ok-put_answer.ensures c.put_gathered.ensures.err c.put_gathered.ensures.cause
