@@ -93,7 +93,8 @@ pub fn run_to_end<'d, R: Threads + Wait + Sync, D: Decider + Sync, G: Stops + Sy
 
 /// Writes the text of a run that has ended, by the contexts of the policy's identifiers. Where it stops before, a front of the text was
 /// written.
-pub fn write_ended<D: Decider, K: Sink>(
+pub fn write_ended<R: Threads + Wait + Sync, D: Decider, K: Sink>(
+    rt: &R,
     alloc: Global,
     ended: &Ended<'_, D>,
     contexts: &SidTable,
@@ -117,6 +118,7 @@ pub fn write_ended<D: Decider, K: Sink>(
         files: ended.closed.files.entries(),
         processes: ended.closed.processes.entries(),
         ports: ended.closed.ports.entries(),
+        log: &ended.log,
     };
-    write_run(alloc, &setting, &histories, &ended.log, sink)
+    write_run(rt, alloc, &setting, &histories, sink)
 }

@@ -219,7 +219,7 @@ fn run_threads<R: Threads + Wait + Sync, K: Sink, G: Stops + Sync>(
 {
     let contexts = catalogue.sids();
     let ended = run_to_end(rt, alloc, session.into_parts(), catalogue, contexts, stops)?;
-    let written = write_ended(alloc, &ended, contexts, sink);
+    let written = write_ended(rt, alloc, &ended, contexts, sink);
     forget(ended);
     written
 }
