@@ -11,7 +11,6 @@ use Rattle.policy_model.specs.declared.policy.Version.{Version}
 use Rattle.policy_model.specs.Declarations.{rules_of}
 use Rattle.policy_text.specs.Above.{newest_rules}
 use Rattle.policy_text.specs.Grammar.{with_rule}
-use Rattle.policy_text.proofs.VersionLemmas.{with_rule_last}
 use Rattle.policy_print.specs.Same.{bare_rule, bare_version}
 
 -- one rule line more, without lines
@@ -24,6 +23,13 @@ bare_with_rule rule (version ∷ []) = bare_last version
     bare_last one = ap (λ rules. record { line = 0; rules = rules } ∷ []) (map-append bare_rule one.rules (rule ∷ []))
 bare_with_rule rule (version ∷ next ∷ versions) = ap (λ newer. bare_version version ∷ newer) (bare_with_rule rule (next ∷ versions))
 
+-- a rule goes to the version that was added last
+rule_to_last : (rule : RuleLine) (versions : List Version) (version : Version) → with_rule rule (versions ++ version ∷ []) ≡ versions ++ record version { rules = version.rules ++ rule ∷ [] } ∷ []
+unfolding with_rule
+rule_to_last rule [] version = refl
+rule_to_last rule (one ∷ []) version = refl
+rule_to_last rule (one ∷ next ∷ versions) version = ap (λ vs. one ∷ vs) (rule_to_last rule (next ∷ versions) version)
+
 -- the same rule line more in the newest version
 pub same_with_rule : (rule other : RuleLine) (versions done : List Version) (version : Version) → bare_rule rule ≡ bare_rule other → map bare_version versions ≡ map bare_version (done ++ version ∷ []) → map bare_version (with_rule rule versions) ≡ map bare_version (done ++ record version { rules = version.rules ++ other ∷ [] } ∷ [])
 same_with_rule rule other versions done version one same =
@@ -31,7 +37,7 @@ same_with_rule rule other versions done version one same =
     ∙ ap (λ bare. with_rule bare (map bare_version versions)) one
     ∙ ap (λ bare. with_rule (bare_rule other) bare) same
     ∙ sym (bare_with_rule other (done ++ version ∷ []))
-    ∙ ap (λ vs. map bare_version vs) (with_rule_last other done version)
+    ∙ ap (λ vs. map bare_version vs) (rule_to_last other done version)
 
 -- the rule lines of a version, without lines
 bare_rules : (found : Option Version) → rules_of (option_map bare_version found) ≡ map bare_rule (rules_of found)
