@@ -1,7 +1,7 @@
 //! The same work as `flaskd threads`, as a Rust programmer writes it: three managers, each behind a ticket lock with its history, a gate word and two
 //! leave counters; a thread for each client, and one for the administrator.
 //!
-//! `plain_threads` reads a session from standard input, runs it, and writes the three histories and the summary, each line in one write. It knows the calls
+//! `plain_threads` reads a session from standard input, runs it, and writes the three histories and the summary through a buffer. It knows the calls
 //! of made sessions, `begin` and `end`, and has no audit lines.
 #[path = "../plain_managers.rs"]
 mod plain_managers;
@@ -299,11 +299,12 @@ fn main() -> io::Result<()> {
     let mut session = read(&text).unwrap_or_else(|_| process::exit(3));
     let desk = Desk { rules: Rules::of(&session), files: Station::open(&session), processes: Station::open(&session), ports: Station::open(&session) };
     run_all(&desk, session.clients.len(), std::mem::take(&mut session.lines));
-    let mut out = io::LineWriter::new(io::stdout().lock());
+    let mut out = io::BufWriter::with_capacity(32_768, io::stdout().lock());
     let files = write_history(&mut out, &session.clients, "file", &desk.files.kept.into_inner().history)?;
     let processes = write_history(&mut out, &session.clients, "process", &desk.processes.kept.into_inner().history)?;
     let ports = write_history(&mut out, &session.clients, "port", &desk.ports.kept.into_inner().history)?;
     let calls = files.calls + processes.calls + ports.calls;
     let denied = files.denied + processes.denied + ports.denied;
-    writeln!(out, "calls {calls} denied {denied} changes {}", files.changes)
+    writeln!(out, "calls {calls} denied {denied} changes {}", files.changes)?;
+    out.flush()
 }
