@@ -1,5 +1,5 @@
 -- Lines printed one after another.
-use Rattle.std.proofs.Common.{◌≡◌, ◌∙◌, ℕ, List, [], ◌∷◌, Option, None, Some, Result, Ok, Err, ◌++◌, refl, sym, ap, append-nil, append_assoc, inl, inr, arith}
+use Rattle.std.proofs.Common.{◌≡◌, ◌∙◌, ℕ, List, [], ◌∷◌, Option, Result, Ok, Err, ◌++◌, refl, sym, ap, append-nil, append_assoc, inl, inr, arith}
 use Rattle.std.specs.List.{flat_map}
 use Rattle.std.specs.Prelude.{OnErr, IfErr, IsErrAnd}
 use Rattle.flask_io.specs.Streams.{HasCause}
@@ -105,3 +105,9 @@ stop_as before now stop (Ok done) is has = absurd is
 stop_as {A = A} before now stop (Err given) is has =
     cause_as before now (stop ≡ run_stop.WriteFault) (◌≡◌ {A = Result A RunStop} (Err given) (Err run_stop.WriteFault))
     (λ at. let same : given ≡ run_stop.WriteFault = cc in sym is ∙ same) (λ at. ap (λ (s : RunStop). Err s) (is ∙ at)) has
+
+-- where no memory is found before the write of a line, nothing was written
+pub stops_for_memory : {K A : Type 0} (written : K → Option (List ℕ)) (faults : K → ℕ) (printing : Printing) (out : K) (one : Shown) (result : Result A RunStop) → IsErrAnd result (λ stop. stop ≡ run_stop.Memory)
+    → IfErr result (λ stop. StopsPrint written faults printing out one out stop)
+stops_for_memory written faults printing out one (Ok done) is = absurd is
+stops_for_memory written faults printing out one (Err stop) is = record { adds = nothing_put (written out) _; cause = no_fault (faults out) stop is }

@@ -1,4 +1,3 @@
-use Rattle.std.specs.Prelude.{◌++◌}
 use Rattle.answer_text.specs.Summaries.{summary_words}
 use Rattle.run_output.specs.Logged.{logged_text}
 use Rattle.run_output.proofs.Outcomes.{on_err, on_err_always}
