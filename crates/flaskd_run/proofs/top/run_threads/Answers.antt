@@ -22,13 +22,14 @@ run_to_end-requires-clause-known g c κs within =
     declared_known c.into_parts.result.policy (sids_of c.args.catalogue.now) (decides_of c.args.catalogue.now)
     (rw (← c.into_parts.ensures.value) at c.requires.judged.1) (rw (← c.into_parts.ensures.value) at c.requires.decides)
 
-pub write_ended-written-requires : goal.write_ended-written-requires
-write_ended-written-requires g c =
+pub write_ended-written-requires-clause-few : goal.write_ended-written-requires-clause-few
+write_ended-written-requires-clause-few g c κs within =
     let kept = rw (← c.into_parts.ensures.value) at c.into_parts.ensures.kept in
-    record {
-      few = rw c.in_ok-ended.ensures.ended.clients_are (few_clients c.into_parts.result kept);
-      log = c.in_ok-ended.ensures.log.count ∙ sym (ap length c.in_ok-ended.ensures.ended.clients_are);
-    }
+    rw c.in_ok-ended.ensures.ended.clients_are (few_clients c.into_parts.result kept)
+
+pub write_ended-written-requires-clause-log : goal.write_ended-written-requires-clause-log
+write_ended-written-requires-clause-log g c κs within =
+    c.in_ok-ended.ensures.log.count ∙ sym (ap length c.in_ok-ended.ensures.ended.clients_are)
 
 pub returns-clause-writes : goal.returns-clause-writes
 returns-clause-writes g c =
