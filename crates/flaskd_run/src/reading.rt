@@ -9,7 +9,7 @@ use flask_io::{Got, Source};
 /// The greatest number of bytes that an input may have.
 pub const INPUT_LIMIT: usize = 4_194_304;
 
-const CHUNK: usize = 4096;
+const CHUNK: usize = 16_384;
 
 /// Why an input was not read to its end.
 #[derive(Clone, Copy, Debug, PartialEq, Eq)]

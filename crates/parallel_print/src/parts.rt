@@ -11,8 +11,8 @@ use std::sync::Wait;
 use std::thread::Threads;
 use thread_tasks::{Task, run_each};
 
-/// So many items at most are a part.
-pub(crate) const PART: usize = 4_096;
+/// Items are put together in so many parts at most, as equal as can be.
+const PARTS: usize = 4;
 
 /// Items one behind another, and their text. It is `Memory` where the text could not be put together, or is not yet.
 #[derive(Drop)]
@@ -39,14 +39,15 @@ impl<'a, 'w, T, W: Wording<T>> Task<Part<'a, T>> for Worker<'w, W> {
     }
 }
 
-/// A list in parts, none of which has its text yet.
+/// A list in parts as equal as can be, none of which has its text yet.
 fn parts_of<'a, T>(alloc: Global, items: &'a [T]) -> Result<Vec<Part<'a, T>>, Memory>
     ensures { IfOk result (λ parts. flat_map items_of parts.items ≡ items.now) }
 {
+    let most = items.len().div_ceil(PARTS).max(1);
     let mut parts = Vec::new(alloc);
     let mut rest = items;
     'parts: while !rest.is_empty() {
-        let (items, behind) = rest.split_at(rest.len().min(PART));
+        let (items, behind) = rest.split_at(rest.len().min(most));
         parts.push(Part {
             items,
             text: Err(Memory),

@@ -6,7 +6,7 @@ ghost use Rattle.flask_io.specs.Streams.{Adds, HasCause};
 ghost use Rattle.run_output.specs.Writing.{AddsFront};
 ghost use Rattle.run_output.specs.declared.stop.RunStop.{RunStop};
 
-use crate::parts::{PART, worded_parts};
+use crate::parts::worded_parts;
 use crate::wording::Wording;
 use flask_io::Sink;
 use run_output::{RunStop, put_line};
@@ -14,8 +14,8 @@ use std::alloc::Global;
 use std::sync::Wait;
 use std::thread::Threads;
 
-/// So many items at most are a round: four parts. So what is put together and not written yet is bounded.
-const ROUND: usize = 4 * PART;
+/// So many items at most are a round. So what is put together and not written yet is bounded.
+const ROUND: usize = 32_768;
 
 /// Writes the texts of a round's items.
 fn write_round<R: Threads + Wait + Sync, T: Sync, W: Wording<T> + Sync, K: Sink>(
