@@ -143,7 +143,7 @@ def row(*cells):
 
 def line(cells):
     text = " | ".join(str(cell) for cell in cells)
-    print(f"| {text} |".replace("|  |", "| |"), flush=True)
+    print(f"| {text} |".replace("|  |", "| |").replace("|  |", "| |"), flush=True)
 
 
 def load():
@@ -155,6 +155,9 @@ def processor():
     return f"{os.cpu_count()} cores, {names[0] if names else 'unknown'}"
 
 
+def now():
+    return f"{datetime.datetime.now(datetime.timezone.utc):%Y-%m-%d %H:%M}"
+
+
 def headline(runs):
-    now = datetime.datetime.now(datetime.timezone.utc)
-    return f"{processor()}; {now:%Y-%m-%d %H:%M} UTC; {runs} runs; load before: {load()}\n"
+    return f"{processor()}; {now()} UTC; {runs} runs; load before: {load()}\n"

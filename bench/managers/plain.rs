@@ -5,7 +5,7 @@
 //! nanoseconds of a processor that they took, and of all calls how many were done, the sum of the numbers told, and how many
 //! bytes were given. With `indexes` it keeps which slots stand on each pair of identifiers and on each object, by which a change of
 //! policy, a relabel or an end finds its slots without going over all of them.
-use std::collections::{BTreeMap, BTreeSet, VecDeque};
+use std::collections::{BTreeMap, VecDeque};
 use std::env;
 
 const CLIENTS: usize = 62;
@@ -49,33 +49,53 @@ struct Slot {
     number: u32,
 }
 
+/// Places by name, as bits of words of 64 places, in the order of the names.
+#[derive(Default)]
+struct PlaceIndex(BTreeMap<u64, u64>);
+
+impl PlaceIndex {
+    fn key(name: u32, at: u32) -> u64 {
+        1024 * u64::from(name) + u64::from(at / 64)
+    }
+
+    fn add(&mut self, name: u32, at: u32) {
+        *self.0.entry(Self::key(name, at)).or_default() |= 1 << (at % 64);
+    }
+
+    /// Takes a place out of its word, and the word where it was the last.
+    fn remove(&mut self, name: u32, at: u32) {
+        let key = Self::key(name, at);
+        if let Some(word) = self.0.get_mut(&key) {
+            *word &= !(1 << (at % 64));
+            if *word == 0 {
+                self.0.remove(&key);
+            }
+        }
+    }
+}
+
 /// The places of slots by their pair of identifiers and by their object.
 #[derive(Default)]
 struct Indexes {
-    pairs: BTreeMap<(u16, u16), BTreeSet<u32>>,
-    objects: BTreeMap<u32, BTreeSet<u32>>,
+    pairs: PlaceIndex,
+    objects: PlaceIndex,
 }
 
 impl Indexes {
     fn add(&mut self, at: u32, slot: Slot) {
-        self.pairs.entry((slot.s, slot.t)).or_default().insert(at);
-        self.objects.entry(slot.object).or_default().insert(at);
+        self.pairs.add(pair_name(slot), at);
+        self.objects.add(slot.object, at);
     }
 
     fn remove(&mut self, at: u32, slot: Slot) {
-        take_out(&mut self.pairs, (slot.s, slot.t), at);
-        take_out(&mut self.objects, slot.object, at);
+        self.pairs.remove(pair_name(slot), at);
+        self.objects.remove(slot.object, at);
     }
 }
 
-/// Takes a place out of the set under a key, and the set where it was the last.
-fn take_out<K: Ord>(sets: &mut BTreeMap<K, BTreeSet<u32>>, key: K, at: u32) {
-    if let Some(set) = sets.get_mut(&key) {
-        set.remove(&at);
-        if set.is_empty() {
-            sets.remove(&key);
-        }
-    }
+/// The number by which the index knows a slot's pair of identifiers, which are below 4,096.
+fn pair_name(slot: Slot) -> u32 {
+    u32::from(slot.s) << 12 | u32::from(slot.t)
 }
 
 /// Slots, identifiers of clients, decider and questions, which both managers have.

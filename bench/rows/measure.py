@@ -25,8 +25,9 @@ WORKS = (
 )
 
 
-def policy(versions, contexts=1):
-    """A drawn policy: 128 types, some with a context, 64 attributes of 1 to 32 types, and 1,024 rule lines a version."""
+def policy(versions, contexts=1, differing=1024):
+    """A drawn policy: 128 types, some with a context, 64 attributes of 1 to 32 types, and 1,024 rule lines a version, of which so many differ from
+    those of the version above."""
     draw = random.Random(5)
     lines = ["policy 1"] + [f"type k{kind}" for kind in range(128)]
     for attribute in range(64):
@@ -40,14 +41,18 @@ def policy(versions, contexts=1):
             return f"k{draw.randrange(128)}"
         return f"a{draw.randrange(64)}" if part < 0.95 else "*"
 
-    for _ in range(versions):
-        lines.append("version")
-        for _ in range(1024):
-            decision = "withhold" if draw.random() < 0.25 else "allow"
-            target = "self" if draw.random() < 0.05 else who()
-            name = draw.choice(list(PERMS))
-            perms = "*" if draw.random() < 0.1 else " ".join(draw.sample(PERMS[name], draw.randint(1, 3)))
-            lines.append(f"{decision} {who()} {target} {name} {perms}")
+    def rule():
+        decision = "withhold" if draw.random() < 0.25 else "allow"
+        target = "self" if draw.random() < 0.05 else who()
+        name = draw.choice(list(PERMS))
+        perms = "*" if draw.random() < 0.1 else " ".join(draw.sample(PERMS[name], draw.randint(1, 3)))
+        return f"{decision} {who()} {target} {name} {perms}"
+
+    rules = [""] * 1024
+    for version in range(versions):
+        for place in range(1024) if version == 0 or differing == 1024 else sorted(draw.sample(range(1024), differing)):
+            rules[place] = rule()
+        lines += ["version", *rules]
     return "\n".join(lines) + "\n"
 
 
@@ -75,6 +80,7 @@ def measure(programs, asked):
     for work, name, text, rounds, pieces in (
         ("catalogue", "a whole policy, 64 versions of 1,024 lines, 1 context", large, 2, 1),
         ("catalogue", "the same with 128 contexts", policy(64, 128), 2, 1),
+        ("catalogue", "the same with 128 contexts, where a version differs from the one above in 8 lines", policy(64, 128, 8), 2, 1),
         ("catalogue", "a whole policy, 1,024 lines, 1,024 neverallow lines", nevers(), 10, 1),
         ("read", "a policy text read, for each megabyte", large, 2, len(large) / 1e6),
     ):

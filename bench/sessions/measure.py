@@ -210,6 +210,9 @@ def measure(programs, asked):
 
 def alone(flaskd):
     """What is measured of `flaskd` alone."""
-    memory = full_memory(flaskd)
-    print(f"\nThe smallest session's first answer, by the clock: {timing.shown(first_answers(flaskd), digits=2)} ms.")
-    print(f"A session of {READS:,} reads of {DATUM:,} bytes: {memory:,} KiB, {memory * 1024 // READS:,} bytes a read, at most.")
+    print()
+    timing.head("the whole program", "proved, best / median, ms by the clock", "plain Rust", "ratio of medians")
+    timing.row("the smallest session's first answer", timing.shown(first_answers(flaskd), digits=2), "", "")
+    print()
+    timing.head("the whole program", "proved, bytes a read, at most", "plain Rust", "ratio of medians")
+    timing.row(f"memory of a session of {READS:,} reads of {DATUM:,} bytes", f"{full_memory(flaskd) * 1024 // READS:,}", "", "")

@@ -1,6 +1,6 @@
 """Sessions of 90,000 lines on threads, as whole commands, on one to four processors.
 
-`flaskd threads` and the plain program run the same sessions, less the start of the process; `flaskd serial` runs them on one thread. In the first session each of
+`flaskd threads` and the plain program run the same sessions; `flaskd serial` runs them on one thread. A figure is of the whole process, its start with it, by the clock. In the first session each of
 eight clients calls all managers, by the calls of `generate`, in the second each client calls one of them, in the third four clients call all, and in the fourth each of three clients has
 a manager that no other calls. What both programs print of a run is judged by tests/judge once.
 """
@@ -96,7 +96,7 @@ def judged(words, path):
 def measure(programs, asked):
     flaskd = asked.program.resolve()
     runs = {"threads": [flaskd, "threads"], "plain": [programs.plain], "serial": [flaskd, "serial"]}
-    timing.head("session, processors", "`threads`, ms by the clock, best / median", "plain Rust", "ratio of medians", "`serial`", "user time: ratio to plain Rust")
+    timing.head("session, processors", "`threads`, ms by the clock, best / median", "plain Rust", "ratio of medians", "`serial`", "ratio of medians to that", "user time: ratio to plain Rust")
     with tempfile.TemporaryDirectory() as folder:
         for name, clients, is_divided in SESSIONS:
             path = pathlib.Path(folder) / "session"
@@ -116,5 +116,6 @@ def measure(programs, asked):
                     *shown,
                     timing.ratio(clock["threads"], clock["plain"]),
                     timing.shown(clock["serial"], 1_000_000, 1),
+                    timing.ratio(clock["threads"], clock["serial"]),
                     timing.ratio(user["threads"], user["plain"]),
                 )
