@@ -134,7 +134,7 @@ def two_changes(clients, lines, seed):
 
 def long_sessions():
     """The long sessions, each with its name."""
-    return {f"clients_62_lines_{lines}": two_changes(62, lines, 7) for lines in (10_000, 30_000)}
+    return {f"clients_62_lines_{lines}": two_changes(62, lines, 7) for lines in (10_000, 30_000, 80_000)}
 
 
 def main():

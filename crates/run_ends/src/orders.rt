@@ -23,24 +23,30 @@ struct Hold {
     until: u32,
 }
 
+/// The administrator, where a line's worker is told by a client's number.
+const ADMINISTRATOR: u8 = 255;
+
 /// Holds workers, and notes which lines began and which answered, by one bit a line from the first line of the run on.
 #[derive(Drop)]
 struct Order<'h> {
     holds: &'h [Hold],
+    text: &'h [u8],
     first: u32,
     begun: AtomicU64,
     answered: AtomicU64,
-    given_up: AtomicBool,
+    is_broken: AtomicBool,
 }
 
 impl<'h> Order<'h> {
-    fn new(holds: &'h [Hold], first: u32) -> Order<'h> {
+    /// Of a session whose first line that runs has this number.
+    fn new(text: &'h [u8], first: u32, holds: &'h [Hold]) -> Order<'h> {
         Order {
             holds,
+            text,
             first,
             begun: AtomicU64::new(0),
             answered: AtomicU64::new(0),
-            given_up: AtomicBool::new(false),
+            is_broken: AtomicBool::new(false),
         }
     }
 
@@ -60,45 +66,57 @@ impl<'h> Order<'h> {
             }
             spin_loop();
         }
-        self.given_up.store(true, Ordering::SeqCst);
+        self.is_broken.store(true, Ordering::SeqCst);
     }
 
-    /// Adds the bit, so that a line that is noted twice is seen in the sum.
-    fn note_answer(&self, line: u32) {
-        self.answered.fetch_add(self.bit(line), Ordering::SeqCst);
+    /// Notes a line among others. The order is broken where it stands there already, and where another worker than its own tells of it.
+    fn note(&self, lines: &AtomicU64, client: u8, line: u32) {
+        let bit = self.bit(line);
+        let found = lines.fetch_or(bit, Ordering::SeqCst);
+        let is_of_administrator = line_at(self.text, line).starts_with(b"admin ");
+        if found & bit != 0 || (client == ADMINISTRATOR) != is_of_administrator {
+            self.is_broken.store(true, Ordering::SeqCst);
+        }
     }
 
-    /// Whether so many lines began and answered, each once, and no worker gave up.
+    /// Whether so many lines began and answered, each once and told by its own worker, and no worker gave up.
     fn was_kept(&self, lines: u32) -> bool {
         let all = 1u64.checked_shl(lines).unwrap_or(0).wrapping_sub(1);
         self.begun.load(Ordering::SeqCst) == all
             && self.answered.load(Ordering::SeqCst) == all
-            && !self.given_up.load(Ordering::SeqCst)
+            && !self.is_broken.load(Ordering::SeqCst)
     }
 }
 
+/// The line with a number, from 1, and no byte where there is none.
+fn line_at(text: &[u8], number: u32) -> &[u8] {
+    text.split(|b| *b == b'\n')
+        .nth((number as usize).wrapping_sub(1))
+        .unwrap_or(&[])
+}
+
 impl Stops for Order<'_> {
-    fn before<R>(&self, _rt: &R, _client: u8, line: u32) {
+    fn before<R>(&self, _rt: &R, client: u8, line: u32) {
         for hold in self.holds {
             if hold.held == line {
                 self.wait_for(hold.until);
             }
         }
-        self.begun.fetch_add(self.bit(line), Ordering::SeqCst);
+        self.note(&self.begun, client, line);
     }
 
     fn after<R, V: Journal<D>, D: Decider>(
         &self,
         _rt: &R,
-        _client: u8,
+        client: u8,
         line: u32,
         _seat: &Seat<V, D>,
     ) {
-        self.note_answer(line);
+        self.note(&self.answered, client, line);
     }
 
-    fn past<R>(&self, _rt: &R, _client: u8, line: u32) {
-        self.note_answer(line);
+    fn past<R>(&self, _rt: &R, client: u8, line: u32) {
+        self.note(&self.answered, client, line);
     }
 }
 
@@ -177,7 +195,7 @@ fn a_read_behind_the_change_is_denied(rt: HostRuntime) -> Result<(), Fail> {
             until: 15,
         },
     ];
-    let order = Order::new(&holds, 12);
+    let order = Order::new(CHANGE, 12, &holds);
     let (status, sink) = run(&rt, rt.alloc(), CHANGE, &order);
     assert_eq!(rt; status, Status::Ok);
     assert_eq!(rt; sink.bytes(), READ_LAST);
@@ -191,7 +209,7 @@ fn a_client_that_comes_late_finds_the_new_policy(rt: HostRuntime) -> Result<(), 
         held: 12,
         until: 15,
     }];
-    let order = Order::new(&holds, 12);
+    let order = Order::new(CHANGE, 12, &holds);
     let (status, sink) = run(&rt, rt.alloc(), CHANGE, &order);
     assert_eq!(rt; status, Status::Ok);
     assert_eq!(rt; sink.bytes(), ALL_LAST);
@@ -201,11 +219,18 @@ fn a_client_that_comes_late_finds_the_new_policy(rt: HostRuntime) -> Result<(), 
 
 #[test]
 fn a_day_in_another_order(rt: HostRuntime) -> Result<(), Fail> {
-    let holds = [Hold {
-        held: 61,
-        until: 69,
-    }];
-    let order = Order::new(&holds, 61);
+    // Each of two clients waits for the other, so that neither could be run to its end before the other begins.
+    let holds = [
+        Hold {
+            held: 61,
+            until: 69,
+        },
+        Hold {
+            held: 76,
+            until: 62,
+        },
+    ];
+    let order = Order::new(DAY, 61, &holds);
     let (status, sink) = run(&rt, rt.alloc(), DAY, &order);
     assert_eq!(rt; status, Status::Ok);
     assert!(rt; order.was_kept(54));

@@ -98,15 +98,15 @@ fn run<'a, R: Threads + Wait + Sync>(
 #[test]
 fn ends_by_the_first_cause(rt: HostRuntime) -> Result<(), Fail> {
     let nothing = &ANSWER[..0];
-    // The answers of its two lines go out together, and then the summary.
-    let answers = &ANSWER[..50];
+    let first_line = &ANSWER[..21];
+    let two_lines = &ANSWER[..50];
     for (reads, writes, status, written) in [
         (&[][..], &[][..], Status::Ok, ANSWER),
         (&[1][..], &[], Status::ReadFault, nothing),
         (&[2][..], &[], Status::ReadFault, nothing),
         (&[], &[1][..], Status::WriteFault, nothing),
-        (&[], &[2][..], Status::WriteFault, answers),
-        (&[], &[3][..], Status::Ok, ANSWER),
+        (&[], &[2][..], Status::WriteFault, first_line),
+        (&[], &[3][..], Status::WriteFault, two_lines),
     ] {
         let (ended, sink) = run(&rt, rt.alloc(), reads, writes);
         assert_eq!(rt; ended, status);

@@ -3,7 +3,7 @@ use Rattle.std.specs.Prelude.{◌≡◌, ℕ, List, [], Option, ◌⊎◌}
 use Rattle.flask_io.specs.Streams.{Adds}
 use Rattle.run_output.specs.Writing.{OffersWhole}
 
--- the lines that were gathered went out in one write, which offered them whole, and none is gathered now
+-- the lines that were gathered went out: they were offered whole in one write, and the rest where the sink took a part; none is gathered now
 pub record GoesOut (before now : Option (List ℕ)) (offered later : Option (List (List ℕ))) (gathered left : List ℕ) : Type 0 where
   pub adds : Adds before now gathered
   pub whole : OffersWhole offered later gathered

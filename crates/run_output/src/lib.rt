@@ -9,6 +9,6 @@ mod stop;
 mod writing;
 
 pub use auditing::write_audit;
-pub use gathering::put_gathered;
+pub use gathering::{put_gathered, put_now};
 pub use setting::Setting;
 pub use stop::{RunStop, put_line};

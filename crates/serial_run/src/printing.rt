@@ -1,7 +1,11 @@
 //! What the lines of a session print, as each is run.
 
-ghost use Rattle.std.specs.Prelude.{◌≡◌, ◌<◌, length, replicate, [], IfSome, IfOk, OnOk};
+ghost use Rattle.std.specs.Prelude.{◌≡◌, ◌-◌, ◌<◌, length, replicate, [], Err, IfSome, IfOk, OnOk, OnErr};
 ghost use Rattle.audit_log.specs.Logs.{Gains};
+ghost use Rattle.flask_io.specs.Streams.{HasCause};
+ghost use Rattle.run_output.specs.Gathering.{GoesOut, PutsOrWaits};
+ghost use Rattle.run_output.specs.Writing.{AddsFront};
+ghost use Rattle.run_output.specs.declared.stop.RunStop.{RunStop};
 ghost use Rattle.session_runner.specs.declared.outcomes.Caller.{Caller};
 ghost use Rattle.serial_run.specs.Serial;
 
@@ -10,17 +14,23 @@ use audit_log::{Acting, AuditLog};
 use flask_io::Sink;
 use flask_sid::{Memory, Text};
 use line_text::put_answer;
-use run_output::{RunStop, Setting, put_gathered};
+use run_output::{RunStop, Setting, put_gathered, put_now};
 use session_runner::{Caller, LineOutcome, Recorder};
 use std::alloc::Global;
 
-/// Writes what the lines came to, many in one write, and logs their audit lines where they are printed.
+/// So many answers go out each in a write of its own, so that a short run shows each as soon as it can. Those behind them go out many in
+/// one write, which takes half the time.
+const ALONE: u8 = 64;
+
+/// Writes what the lines came to, and logs their audit lines where they are printed.
 #[derive(Drop)]
 pub(crate) struct Printing<'a> {
     pub(crate) setting: Setting<'a>,
     pub(crate) log: AuditLog,
     /// The answers that wait for a write.
     pub(crate) gathered: Text,
+    /// How many answers more go out each in a write of its own.
+    pub(crate) alone: u8,
 }
 
 impl<'a> Printing<'a> {
@@ -30,12 +40,14 @@ impl<'a> Printing<'a> {
         ensures setting { IfOk result (λ printing. printing.setting ≡ setting.entry) }
         ensures log { IfOk result (λ printing. printing.log ≡ replicate (length setting.entry.clients.now) []) }
         ensures gathered { IfOk result (λ printing. printing.gathered ≡ []) }
+        ensures alone { IfOk result (λ printing. printing.alone ≡ 64) }
     {
         let log = AuditLog::new(alloc, setting.clients.len() as u8)?;
         Ok(Printing {
             setting,
             log,
             gathered: Text::new(alloc),
+            alone: ALONE,
         })
     }
 }
@@ -62,7 +74,24 @@ impl<'a, K: Sink> Recorder<K> for Printing<'a> {
         let (contexts, clients) = (self.setting.contexts, self.setting.clients);
         put_answer(&mut self.gathered, contexts, clients, line, &answer)?;
         log_call(&self.setting, &mut self.log, line, caller, asked)?;
-        put_gathered(sink, &mut self.gathered)
+        put_next(sink, &mut self.gathered, &mut self.alone)
+    }
+}
+
+/// Writes the answers that wait: where answers still go out alone at once, and else where they are enough for a write.
+#[inline(always)]
+fn put_next<K: Sink>(sink: &mut K, gathered: &mut Text, alone: &mut u8) -> Result<(), RunStop>
+    ensures ok { OnOk result (PutsOrWaits (K.written sink.old) (K.written sink.new) (K.offered sink.old) (K.offered sink.new) gathered.old gathered.new) }
+    ensures now { OnOk result (0 < alone.old → GoesOut (K.written sink.old) (K.written sink.new) (K.offered sink.old) (K.offered sink.new) gathered.old gathered.new) }
+    ensures fewer { alone.new ≡ alone.old - 1 }
+    ensures err { OnErr result (AddsFront (K.written sink.old) (K.written sink.new) gathered.old) }
+    ensures cause { HasCause (K.faults sink.old) (K.faults sink.new) (result ≡ Err RunStop.WriteFault) }
+{
+    if *alone == 0 {
+        put_gathered(sink, gathered)
+    } else {
+        *alone -= 1;
+        put_now(sink, gathered)
     }
 }
 

@@ -1,4 +1,4 @@
-//! The text of a threaded run, written line by line: the three histories, the audit lines and the summary.
+//! The text of a threaded run, written: the three histories, the audit lines and the summary.
 #![tactic(auto)]
 
 mod audit;
