@@ -1,7 +1,9 @@
 pub mod PathForms
+pub mod FirstFaults
 pub mod Arguments
-pub mod CallForms
 pub mod Ranges
+pub mod ArgumentTypes
+pub mod CallNames
 pub mod SetupForms
 pub mod RunForms
 pub mod ArgumentForms

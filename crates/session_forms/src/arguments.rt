@@ -3,9 +3,8 @@
 ghost use Rattle.std.specs.Prelude.{◌≡◌};
 ghost use Rattle.session_forms.specs.Arguments;
 
-use crate::parts::{Parts, path_form};
 use flask_sid::{ContextOf, Word, context_form};
-use text_lines::{Words, numeral};
+use text_lines::{FaultKind, Words};
 
 /// The word, where it is alone.
 #[tactic(auto, unfolding(crate::specs::Arguments::only_word))]
@@ -40,14 +39,6 @@ pub fn is_end(mut words: Words<'_>) -> bool
     words.next().is_none()
 }
 
-/// A numeral alone.
-#[tactic(auto, unfolding(crate::specs::Arguments::only_number))]
-pub fn only_number(words: Words<'_>) -> Option<u64>
-    ensures { result ≡ Arguments.only_number words.entry }
-{
-    numeral(&only_word(words)?)
-}
-
 /// A context alone. Its parts may be too long yet.
 #[tactic(auto, unfolding(crate::specs::Arguments::only_context))]
 pub fn only_context<'a>(words: Words<'a>) -> Option<ContextOf<Word<'a>>>
@@ -57,41 +48,53 @@ pub fn only_context<'a>(words: Words<'a>) -> Option<ContextOf<Word<'a>>>
     context_form(word.as_bytes())
 }
 
-/// A path alone. It may be too long yet.
-#[tactic(auto, unfolding(crate::specs::Arguments::only_path))]
-#[inline(always)]
-pub fn only_path<'a>(words: Words<'a>) -> Option<Parts<'a>>
-    ensures { result ≡ Arguments.only_path words.entry }
+/// Just one word. `Syntax` where there is another number of them.
+#[tactic(auto, unfolding(crate::specs::Arguments::one_word))]
+pub fn one_word<'a>(mut words: Words<'a>) -> Result<Word<'a>, FaultKind>
+    ensures { result ≡ Arguments.one_word words.entry }
 {
-    path_form(&only_word(words)?)
+    let Some(word) = words.next() else {
+        return Err(FaultKind::Syntax);
+    };
+    match words.next() {
+        None => Ok(word),
+        Some(_more) => Err(FaultKind::Syntax),
+    }
 }
 
-/// A path alone, and not the root's.
-#[tactic(auto, unfolding(crate::specs::Arguments::only_entry))]
-pub fn only_entry<'a>(words: Words<'a>) -> Option<Parts<'a>>
-    ensures { result ≡ Arguments.only_entry words.entry }
+/// Just two words. `Syntax` where there is another number of them.
+#[tactic(auto, unfolding(crate::specs::Arguments::two_words))]
+pub fn two_words<'a>(mut words: Words<'a>) -> Result<(Word<'a>, Word<'a>), FaultKind>
+    ensures { result ≡ Arguments.two_words words.entry }
 {
-    let path = only_path(words)?;
-    if path.is_root() { None } else { Some(path) }
+    let Some(first) = words.next() else {
+        return Err(FaultKind::Syntax);
+    };
+    let Some(second) = words.next() else {
+        return Err(FaultKind::Syntax);
+    };
+    match words.next() {
+        None => Ok((first, second)),
+        Some(_more) => Err(FaultKind::Syntax),
+    }
 }
 
-/// Two numerals alone.
-#[tactic(auto, unfolding(crate::specs::Arguments::two_numbers))]
-pub fn two_numbers(mut words: Words<'_>) -> Option<(u64, u64)>
-    ensures { result ≡ Arguments.two_numbers words.entry }
+/// Just three words. `Syntax` where there is another number of them.
+#[tactic(auto, unfolding(crate::specs::Arguments::three_words))]
+pub fn three_words<'a>(mut words: Words<'a>) -> Result<(Word<'a>, Word<'a>, Word<'a>), FaultKind>
+    ensures { result ≡ Arguments.three_words words.entry }
 {
-    let first = words.next()?;
-    let second = only_number(words)?;
-    Some((numeral(&first)?, second))
-}
-
-/// A numeral and a word, and no more.
-#[tactic(auto, unfolding(crate::specs::Arguments::number_and_word))]
-#[inline(always)]
-pub fn number_and_word<'a>(mut words: Words<'a>) -> Option<(u64, Word<'a>)>
-    ensures { result ≡ Arguments.number_and_word words.entry }
-{
-    let first = words.next()?;
-    let word = only_word(words)?;
-    Some((numeral(&first)?, word))
+    let Some(first) = words.next() else {
+        return Err(FaultKind::Syntax);
+    };
+    let Some(second) = words.next() else {
+        return Err(FaultKind::Syntax);
+    };
+    let Some(third) = words.next() else {
+        return Err(FaultKind::Syntax);
+    };
+    match words.next() {
+        None => Ok((first, second, third)),
+        Some(_more) => Err(FaultKind::Syntax),
+    }
 }

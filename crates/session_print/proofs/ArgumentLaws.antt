@@ -1,5 +1,5 @@
 -- Paths, modes, data and numbers are words, and are read as what they were.
-use Rattle.std.proofs.Common.{◌≡◌, ◌∙◌, ◌<◌, ◌≤◌, ℕ, Bool, true, false, ltb, length, List, [], ◌∷◌, ◌++◌, Option, Some, None, inl, inr, refl, ap, arith}
+use Rattle.std.proofs.Common.{◌≡◌, ◌∙◌, ◌<◌, ◌≤◌, ℕ, Bool, true, false, ltb, length, List, [], ◌∷◌, ◌++◌, Option, Some, None, Result, Ok, Err, inl, inr, refl, ap, arith}
 use Rattle.std.specs.Prelude.{◌&&◌, ◌||◌, ◌==◌, decimal, codes}
 use Rattle.std.specs.List.{All, list_all, list_any, flat_map, slice_split}
 use Rattle.std.specs.Str.{bytes_eq}
@@ -14,14 +14,15 @@ use Rattle.std.proofs.lemmas.Slice.Eq.{bytes_eq-Decides}
 use Rattle.flask_sid.specs.Names.{is_long}
 use Rattle.text_lines.specs.Lines.{is_word_byte, is_filled}
 use Rattle.text_lines.specs.Numerals.{numeral_of}
+use Rattle.text_lines.specs.declared.fault.FaultKind.{FaultKind}
 use Rattle.text_print.specs.Printed.{is_word}
 use Rattle.text_print.proofs.WordLaws.{none_pass, all_pass}
 use Rattle.text_print.proofs.NumeralLaws.{numeral_of_decimal, decimal_is_word}
-use Rattle.file_calls.specs.Formed.{is_path_byte, IsPart, IsPath, IsFileMode}
+use Rattle.file_calls.specs.Formed.{is_path_byte, IsPart, IsPath, IsEntryPath, IsFileMode}
 use Rattle.port_calls.specs.Formed.{IsBindMode, IsConnectMode}
 use Rattle.session_forms.specs.Arguments.{is_root}
 use Rattle.session_forms.specs.PathForms.{is_part_form, path_form, is_long_path}
-use Rattle.session_forms.specs.CallForms.{mode_of, bind_mode_of, connect_mode_of}
+use Rattle.session_forms.specs.ArgumentTypes.{number_of, datum_of, path_of, entry_of, mode_of, bind_mode_of, connect_mode_of}
 use Rattle.session_forms.specs.Ranges.{is_long_word}
 use Rattle.session_text.specs.Sessions.{AreWordBytes}
 use Rattle.session_print.specs.Words.{part_text, path_word, mode_word, bind_word, connect_word}
@@ -121,6 +122,16 @@ pub not_root : (path : List (List ℕ)) → 0 < length path → is_root path ≡
 not_root [] below = absurd (omega (arith, below))
 not_root (part ∷ parts) below = refl
 
+-- a path is read as an argument
+pub path_reads : (path : List (List ℕ)) → IsPath path → path_of (path_word path) ≡ Ok path
+unfolding path_of
+path_reads path formed = let word = path_printed path formed in rw (word.read, word.short) refl
+
+-- and a path below the root as one
+pub entry_reads : (path : List (List ℕ)) → IsEntryPath path → entry_of (path_word path) ≡ Ok path
+unfolding entry_of
+entry_reads path formed = rw (path_reads path formed.formed, not_root path formed.some) refl
+
 -- a datum is a word
 pub datum_is_word : (bytes : List ℕ) → 0 < length bytes → AreWordBytes bytes → is_word bytes ≡ true
 datum_is_word [] some written = absurd (omega (arith, some))
@@ -130,10 +141,14 @@ datum_is_word (b ∷ bytes) some written = written
 pub datum_short : (bytes : List ℕ) → length bytes ≤ 1024 → is_long_word bytes ≡ false
 datum_short bytes short = le-ltb 1024 (length bytes) short
 
+-- it is read as an argument
+pub datum_reads : (bytes : List ℕ) → length bytes ≤ 1024 → datum_of bytes ≡ Ok bytes
+datum_reads bytes short = rw (datum_short bytes short) refl
+
 -- a mode that was read
-abbrev is_mode : ℕ → Option ℕ → Bool
-is_mode mode None = false
-is_mode mode (Some read) = read == mode
+abbrev is_mode : ℕ → Result ℕ FaultKind → Bool
+is_mode mode (Ok read) = read == mode
+is_mode mode (Err kind) = false
 
 -- a mode's word is one, and is read as that mode, unless the mode is empty
 abbrev reads_mode : ℕ → Bool
@@ -145,12 +160,12 @@ unfolding mode_word mode_of
 modes_read = refl
 
 -- the mode that was read is that one
-mode_is : (mode : ℕ) (read : Option ℕ) → is_mode mode read ≡ true → read ≡ Some mode
-mode_is mode None h = cc
-mode_is mode (Some read) h = ap (λ m. Some m) (eqb-true read mode h)
+mode_is : (mode : ℕ) (read : Result ℕ FaultKind) → is_mode mode read ≡ true → read ≡ Ok mode
+mode_is mode (Ok read) h = let is : read ≡ mode = eqb-true read mode h in rw is refl
+mode_is mode (Err kind) h = cc
 
 -- a mode of an open file is a word, and is read again
-pub mode_again : (mode : ℕ) → IsFileMode mode → (is_word (mode_word mode) ≡ true) × (mode_of (mode_word mode) ≡ Some mode)
+pub mode_again : (mode : ℕ) → IsFileMode mode → (is_word (mode_word mode) ≡ true) × (mode_of (mode_word mode) ≡ Ok mode)
 mode_again mode formed =
     let reads : reads_mode mode ≡ true = agree_below_at reads_mode (λ mode. true) 8 mode modes_read formed.1 in
     let some : (mode == 0) ≡ false = ne_eqb mode 0 (λ none. absurd (omega (arith, none, formed.0))) in
@@ -158,13 +173,13 @@ mode_again mode formed =
     (both.0, mode_is mode (mode_of (mode_word mode)) both.1)
 
 -- a mode of a bound port
-pub bind_again : (mode : ℕ) → IsBindMode mode → (is_word (bind_word mode) ≡ true) × (bind_mode_of (bind_word mode) ≡ Some mode)
+pub bind_again : (mode : ℕ) → IsBindMode mode → (is_word (bind_word mode) ≡ true) × (bind_mode_of (bind_word mode) ≡ Ok mode)
 unfolding bind_word bind_mode_of
 bind_again mode (inl bind) = rw bind (refl, refl)
 bind_again mode (inr recv) = rw recv (refl, refl)
 
 -- a mode of a connection
-pub connect_again : (mode : ℕ) → IsConnectMode mode → (is_word (connect_word mode) ≡ true) × (connect_mode_of (connect_word mode) ≡ Some mode)
+pub connect_again : (mode : ℕ) → IsConnectMode mode → (is_word (connect_word mode) ≡ true) × (connect_mode_of (connect_word mode) ≡ Ok mode)
 unfolding connect_word connect_mode_of
 connect_again mode (inl connect) = rw connect (refl, refl)
 connect_again mode (inr send) = rw send (refl, refl)
@@ -177,3 +192,15 @@ pub record IsNumberWord (n : ℕ) (word : List ℕ) : Type 0 where
 -- a number of 32 bits, printed
 pub number_printed : (n : ℕ) → n < 4294967296 → IsNumberWord n (decimal n)
 number_printed n small = record { is_word = decimal_is_word n (omega arith); read = numeral_of_decimal n (omega arith) }
+
+-- a number that is read as an argument from this range
+pub record IsInRange (least most n : ℕ) (word : List ℕ) : Type 0 where
+  pub is_word : is_word word ≡ true
+  pub read : number_of least most word ≡ Ok n
+
+-- a number from a range of 32 bits, printed
+pub range_printed : (least most n : ℕ) → least ≤ n → n ≤ most → most < 4294967296 → IsInRange least most n (decimal n)
+unfolding number_of
+range_printed least most n low high small =
+    let number = number_printed n (omega (arith, high, small)) in
+    record { is_word = number.is_word; read = rw (number.read, le-ltb n least low, le-ltb most n high) refl }

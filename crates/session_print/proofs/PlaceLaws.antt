@@ -1,5 +1,5 @@
 -- What stands at a place of a list is found there again: contexts by their names, clients by theirs.
-use Rattle.std.proofs.Common.{◌≡◌, ◌∙◌, ◌<◌, ◌≤◌, ◌+◌, ◌-◌, ℕ, suc, zero, Bool, true, false, ltb, length, length-append, List, [], ◌∷◌, ◌++◌, Some, refl, sym, arith}
+use Rattle.std.proofs.Common.{◌≡◌, ◌∙◌, ◌<◌, ◌≤◌, ◌+◌, ◌-◌, ℕ, suc, zero, Bool, true, false, ltb, length, length-append, List, [], ◌∷◌, ◌++◌, Some, Ok, refl, sym, arith}
 use Rattle.std.specs.Prelude.{slice_get, codes}
 use Rattle.std.specs.List.{list_any, position, position_or_len}
 use Rattle.std.specs.Str.{bytes_eq}
@@ -21,6 +21,7 @@ use Rattle.policy_print.proofs.SameLaws.{context_place_same}
 use Rattle.policy_print.proofs.FieldLaws.{declared_kind, kind_form, kind_short, name_short}
 use Rattle.session_text.specs.declared.session.ClientLine.{ClientLine}
 use Rattle.session_text.specs.Above.{context_sid, client_number, has_client}
+use Rattle.session_text.specs.Calls.{context_of, client_of, receiver_of}
 use Rattle.session_text.specs.Sessions.{IsSidOf, MayClient}
 use Rattle.session_print.specs.Words.{context_word, client_word}
 
@@ -124,6 +125,13 @@ context_again policy next grown same sid word context known is =
     let number : sid - 1 + 1 ≡ sid = omega arith in
     rw (place, within, number) refl
 
+-- it is read as an argument
+pub context_reads : (policy next : PolicyParts) → Grown policy → IsSamePolicy next policy → (sid : ℕ) → IsSidOf policy.contexts sid → context_of next.contexts (context_word policy.contexts sid) ≡ Ok sid
+unfolding context_of
+context_reads policy next grown same sid known =
+    let context = context_printed policy grown sid known in
+    rw (context.1.read, context.1.short, context_again policy next grown same sid _ context.0 known context.1) refl
+
 -- a client is new where it may stand
 client_new : (contexts : List ContextLine) (seen : List ClientLine) (client : ClientLine) → MayClient contexts seen client → list_any (λ other. bytes_eq other.name client.name) seen ≡ false
 unfolding has_client
@@ -145,3 +153,13 @@ client_printed contexts clients grown client within =
       other = rw line.1 (at_place (MayClient contexts) (λ one. bytes_eq one.name (codes "admin") ≡ false) (λ seen one may. may.other) [] clients client line.0 grown line.1);
       number = rw line.1 (found_there (MayClient contexts) (λ one other. bytes_eq one.name other.name) (λ one. itself_eq one.name) (client_new contexts) clients client line.0 grown line.1);
     }
+
+-- it is read as the client of that number
+pub client_reads : (clients : List ClientLine) (client : ℕ) (name : List ℕ) → IsClientWord clients client name → client_of clients name ≡ Ok client
+unfolding client_of
+client_reads clients client name is = rw (name_short name is.is_name, is.number) refl
+
+-- and as an argument
+pub receiver_reads : (clients : List ClientLine) (client : ℕ) (name : List ℕ) → IsClientWord clients client name → receiver_of clients name ≡ Ok client
+unfolding receiver_of
+receiver_reads clients client name is = rw (form_of_name name is.is_name) (client_reads clients client name is)

@@ -1,8 +1,9 @@
 //! Puts calls, each behind its client and its manager: one function for each shape of arguments.
 
-ghost use Rattle.std.specs.Prelude.{◌≡◌, ◌++◌, [], ◌∷◌, OnOk, decimal, codes};
+ghost use Rattle.std.specs.Prelude.{◌≡◌, ◌++◌, [], ◌∷◌, OnOk, decimal};
 ghost use Rattle.std.specs.List.{flat_map};
 ghost use Rattle.text_print.specs.Printed.{behind};
+ghost use Rattle.session_forms.specs.CallNames;
 ghost use Rattle.session_print.specs.Words;
 ghost use Rattle.session_print.specs.CallWords;
 
@@ -13,6 +14,7 @@ use flask_sid::{Memory, Piece, Sid, Text};
 use policy_model::ContextLine;
 use port_calls::PortCall;
 use process_calls::ProcessCall;
+use session_forms::call_names as name;
 use session_text::ClientLine;
 use text_print::{put_numeral, put_word};
 
@@ -27,8 +29,8 @@ pub fn put_file_call(
     ensures { OnOk result (out.new ≡ out.old ++ flat_map behind (CallWords.file_words contexts.now clients.now call.now)) }
 {
     match call {
-        FileCall::Mkdir { path } => put_on_path(out, b"mkdir", path),
-        FileCall::Create { path } => put_on_path(out, b"create", path),
+        FileCall::Mkdir { path } => put_on_path(out, name::MKDIR, path),
+        FileCall::Create { path } => put_on_path(out, name::CREATE, path),
         FileCall::OpenFile { slot, path, mode } => put_open(out, *slot, path, *mode),
         FileCall::ReadFile {
             slot,
@@ -41,12 +43,12 @@ pub fn put_file_call(
             piece,
         } => put_write(out, *slot, *offset, piece),
         FileCall::AppendFile { slot, piece } => {
-            put_with_datum(out, b"append", u32::from(*slot), piece)
+            put_with_datum(out, name::APPEND_FILE, u32::from(*slot), piece)
         }
-        FileCall::CloseFile { slot } => put_with_number(out, b"close", u32::from(*slot)),
-        FileCall::Unlink { path } => put_on_path(out, b"unlink", path),
+        FileCall::CloseFile { slot } => put_with_number(out, name::CLOSE_FILE, u32::from(*slot)),
+        FileCall::Unlink { path } => put_on_path(out, name::UNLINK, path),
         FileCall::List { path, skip } => put_list(out, path, *skip),
-        FileCall::StatFile { path } => put_on_path(out, b"stat", path),
+        FileCall::StatFile { path } => put_on_path(out, name::STAT, path),
         FileCall::Relabel { path, sid } => put_relabel(out, contexts, path, *sid),
         FileCall::Give {
             slot,
@@ -66,20 +68,20 @@ pub fn put_process_call(
     ensures { OnOk result (out.new ≡ out.old ++ flat_map behind (CallWords.process_words contexts.now call.now)) }
 {
     match *call {
-        ProcessCall::Fork { pid } => put_with_number(out, b"fork", pid),
+        ProcessCall::Fork { pid } => put_with_number(out, name::FORK, pid),
         ProcessCall::Exec { pid, sid } => put_exec(out, contexts, pid, sid),
-        ProcessCall::Signal { pid, number } => put_with_numbers(out, b"signal", pid, number),
-        ProcessCall::Exit { pid, code } => put_with_numbers(out, b"exit", pid, code),
-        ProcessCall::Wait { pid } => put_with_number(out, b"wait", pid),
+        ProcessCall::Signal { pid, number } => put_with_numbers(out, name::SIGNAL, pid, number),
+        ProcessCall::Exit { pid, code } => put_with_numbers(out, name::EXIT, pid, code),
+        ProcessCall::Wait { pid } => put_with_number(out, name::WAIT, pid),
         ProcessCall::Attach { slot, pid } => {
-            put_with_numbers(out, b"attach", u32::from(slot), pid)
+            put_with_numbers(out, name::ATTACH, u32::from(slot), pid)
         }
-        ProcessCall::Peek { slot } => put_with_number(out, b"peek", u32::from(slot)),
+        ProcessCall::Peek { slot } => put_with_number(out, name::PEEK, u32::from(slot)),
         ProcessCall::Poke { slot, value } => {
-            put_with_numbers(out, b"poke", u32::from(slot), value)
+            put_with_numbers(out, name::POKE, u32::from(slot), value)
         }
-        ProcessCall::Detach { slot } => put_with_number(out, b"detach", u32::from(slot)),
-        ProcessCall::StatProcess { pid } => put_with_number(out, b"stat", pid),
+        ProcessCall::Detach { slot } => put_with_number(out, name::DETACH, u32::from(slot)),
+        ProcessCall::StatProcess { pid } => put_with_number(out, name::STAT, pid),
     }
 }
 
@@ -90,18 +92,18 @@ pub fn put_port_call(out: &mut Text, call: &PortCall) -> Result<(), Memory>
 {
     match call {
         PortCall::Bind { slot, port, mode } => {
-            put_with_numbers(out, b"bind", u32::from(*slot), *port)?;
+            put_with_numbers(out, name::BIND, u32::from(*slot), *port)?;
             put_bind_mode(out, *mode)
         }
-        PortCall::Recv { slot } => put_with_number(out, b"recv", u32::from(*slot)),
+        PortCall::Recv { slot } => put_with_number(out, name::RECV, u32::from(*slot)),
         PortCall::Connect { slot, port, mode } => {
-            put_with_numbers(out, b"connect", u32::from(*slot), *port)?;
+            put_with_numbers(out, name::CONNECT, u32::from(*slot), *port)?;
             put_connect_mode(out, *mode)
         }
-        PortCall::Push { slot, piece } => put_with_datum(out, b"push", u32::from(*slot), piece),
-        PortCall::Send { port, piece } => put_with_datum(out, b"send", *port, piece),
-        PortCall::Unbind { slot } => put_with_number(out, b"unbind", u32::from(*slot)),
-        PortCall::StatPort { port } => put_with_number(out, b"stat", *port),
+        PortCall::Push { slot, piece } => put_with_datum(out, name::PUSH, u32::from(*slot), piece),
+        PortCall::Send { port, piece } => put_with_datum(out, name::SEND, *port, piece),
+        PortCall::Unbind { slot } => put_with_number(out, name::UNBIND, u32::from(*slot)),
+        PortCall::StatPort { port } => put_with_number(out, name::STAT, *port),
     }
 }
 
@@ -135,33 +137,33 @@ fn put_with_datum(out: &mut Text, call: &[u8], number: u32, datum: &Piece) -> Re
 
 fn put_open(out: &mut Text, slot: u8, path: &FilePath, mode: Vector) -> Result<(), Memory>
     ensures { OnOk result (out.new ≡ out.old ++ flat_map behind
-        (codes "open" ∷ decimal slot ∷ Words.path_word path.now ∷ Words.mode_word mode ∷ [])) }
+        (CallNames.open_file ∷ decimal slot ∷ Words.path_word path.now ∷ Words.mode_word mode ∷ [])) }
 {
-    put_with_number(out, b"open", u32::from(slot))?;
+    put_with_number(out, name::OPEN_FILE, u32::from(slot))?;
     put_path(out, path)?;
     put_mode(out, mode)
 }
 
 fn put_read(out: &mut Text, slot: u8, offset: u32, length: u32) -> Result<(), Memory>
     ensures { OnOk result (out.new ≡ out.old ++ flat_map behind
-        (codes "read" ∷ decimal slot ∷ decimal offset ∷ decimal length ∷ [])) }
+        (CallNames.read_file ∷ decimal slot ∷ decimal offset ∷ decimal length ∷ [])) }
 {
-    put_with_numbers(out, b"read", u32::from(slot), offset)?;
+    put_with_numbers(out, name::READ_FILE, u32::from(slot), offset)?;
     put_numeral(out, u64::from(length))
 }
 
 fn put_write(out: &mut Text, slot: u8, offset: u32, datum: &Piece) -> Result<(), Memory>
     ensures { OnOk result (out.new ≡ out.old ++ flat_map behind
-        (codes "write" ∷ decimal slot ∷ decimal offset ∷ datum.now ∷ [])) }
+        (CallNames.write_file ∷ decimal slot ∷ decimal offset ∷ datum.now ∷ [])) }
 {
-    put_with_numbers(out, b"write", u32::from(slot), offset)?;
+    put_with_numbers(out, name::WRITE_FILE, u32::from(slot), offset)?;
     put_word(out, datum.as_bytes())
 }
 
 fn put_list(out: &mut Text, path: &FilePath, skip: u32) -> Result<(), Memory>
-    ensures { OnOk result (out.new ≡ out.old ++ flat_map behind (codes "list" ∷ Words.path_word path.now ∷ decimal skip ∷ [])) }
+    ensures { OnOk result (out.new ≡ out.old ++ flat_map behind (CallNames.list ∷ Words.path_word path.now ∷ decimal skip ∷ [])) }
 {
-    put_on_path(out, b"list", path)?;
+    put_on_path(out, name::LIST, path)?;
     put_numeral(out, u64::from(skip))
 }
 
@@ -172,9 +174,9 @@ fn put_relabel(
     sid: Sid,
 ) -> Result<(), Memory>
     ensures { OnOk result (out.new ≡ out.old ++ flat_map behind
-        (codes "relabel" ∷ Words.path_word path.now ∷ Words.context_word contexts.now sid ∷ [])) }
+        (CallNames.relabel ∷ Words.path_word path.now ∷ Words.context_word contexts.now sid ∷ [])) }
 {
-    put_on_path(out, b"relabel", path)?;
+    put_on_path(out, name::RELABEL, path)?;
     put_label(out, contexts, sid)
 }
 
@@ -186,16 +188,16 @@ fn put_give(
     target: u8,
 ) -> Result<(), Memory>
     ensures { OnOk result (out.new ≡ out.old ++ flat_map behind
-        (codes "give" ∷ decimal slot ∷ Words.client_word clients.now client ∷ decimal target ∷ [])) }
+        (CallNames.give ∷ decimal slot ∷ Words.client_word clients.now client ∷ decimal target ∷ [])) }
 {
-    put_with_number(out, b"give", u32::from(slot))?;
+    put_with_number(out, name::GIVE, u32::from(slot))?;
     put_word(out, client_name(clients, client))?;
     put_numeral(out, u64::from(target))
 }
 
 fn put_exec(out: &mut Text, contexts: &[ContextLine], pid: u32, sid: Sid) -> Result<(), Memory>
-    ensures { OnOk result (out.new ≡ out.old ++ flat_map behind (codes "exec" ∷ decimal pid ∷ Words.context_word contexts.now sid ∷ [])) }
+    ensures { OnOk result (out.new ≡ out.old ++ flat_map behind (CallNames.exec ∷ decimal pid ∷ Words.context_word contexts.now sid ∷ [])) }
 {
-    put_with_number(out, b"exec", pid)?;
+    put_with_number(out, name::EXEC, pid)?;
     put_label(out, contexts, sid)
 }

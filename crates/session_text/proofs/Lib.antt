@@ -2,7 +2,9 @@ pub mod Growth
 pub mod SessionLemmas
 pub mod PassLemmas
 pub mod LimitLemmas
+pub mod ArgumentLemmas
 pub mod CallLemmas
+pub mod RunLemmas
 pub mod ClientLemmas
 pub mod PlaceLemmas
 pub mod LineLemmas

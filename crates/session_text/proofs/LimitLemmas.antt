@@ -12,10 +12,10 @@ use Rattle.flask_sid.specs.declared.context.ContextOf.{ContextOf}
 use Rattle.text_lines.specs.Lines.{is_filled, is_word_byte}
 use Rattle.policy_model.specs.Declarations.{same_context}
 use Rattle.policy_model.specs.declared.policy.ContextLine.{ContextLine}
-use Rattle.file_calls.specs.Formed.{IsSlot, IsOffset, IsReadLength, IsData, IsSkip, IsPart, IsPath, IsEntryPath, is_path_byte}
+use Rattle.file_calls.specs.Formed.{IsData, IsPart, IsPath, is_path_byte}
 use Rattle.session_forms.specs.PathForms.{is_part_form, is_long_path}
-use Rattle.session_forms.specs.Ranges.{is_past_slot, is_past_offset, is_past_place, is_long_word}
-use Rattle.session_forms.specs.ArgumentForms.{IsWord, IsPathForm, IsEntryForm}
+use Rattle.session_forms.specs.Ranges.{is_past_place, is_long_word}
+use Rattle.session_forms.specs.ArgumentForms.{IsWord, IsPathForm}
 use Rattle.session_forms.proofs.WordLemmas.{both}
 use Rattle.session_text.specs.Above.{sid_at, context_sid, client_number}
 use Rattle.session_text.specs.Sessions.{AreWordBytes, IsSidOf}
@@ -60,30 +60,14 @@ path_formed parts formed short =
     let apart = neither (nat_lt 16 (length parts)) (list_any is_long parts) short in
     record { short = grind (arith, nat_tests); parts = parts_formed parts formed apart.1 }
 
-pub entry_formed : (parts : List (List ℕ)) → IsEntryForm parts → is_long_path parts ≡ false → IsEntryPath parts
-entry_formed [] (below, formed) short = cc
-entry_formed (part ∷ parts) (below, formed) short = record { some = omega arith; formed = path_formed (part ∷ parts) formed short }
-
--- numbers and data within their limits
-pub slot_formed : (slot : ℕ) → is_past_slot slot ≡ false → IsSlot slot
-slot_formed slot within = grind (arith, nat_tests)
-
-pub offset_formed : (offset : ℕ) → is_past_offset offset ≡ false → IsOffset offset
-offset_formed offset within = grind (arith, nat_tests)
-
-pub length_formed : (most : ℕ) → (most == 0) ≡ false → nat_lt 1024 most ≡ false → IsReadLength most
-length_formed most some within = (grind (arith, nat_tests), grind (arith, nat_tests))
-
 -- a word can be written
 pub written : (bytes : List ℕ) → IsWord bytes → AreWordBytes bytes
 written bytes word = (both (is_filled bytes) (list_all is_word_byte bytes) word).1
 
+-- a datum within its limit
 pub data_formed : (bytes : List ℕ) → IsWord bytes → is_long_word bytes ≡ false → IsData bytes
 data_formed [] word short = cc
 data_formed (b ∷ bs) word short = (omega arith, grind (arith, nat_tests), AllPass-from_list_all is_word_byte (b ∷ bs) (written (b ∷ bs) word))
-
-pub skip_formed : (skip : ℕ) → nat_lt 4096 skip ≡ false → IsSkip skip
-skip_formed skip within = grind (arith, nat_tests)
 
 -- the number of a process or a port
 pub place_formed : (number : ℕ) → is_past_place number ≡ false → (0 < number) × (number < 65536)

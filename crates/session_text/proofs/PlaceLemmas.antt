@@ -18,7 +18,7 @@ use Rattle.session_text.specs.Above.{node_limit, port_limit, client_limit, conte
 use Rattle.session_text.specs.Grammar.{data_bytes, is_past_node, is_taken, node_sid, is_past_client, is_named, client_sid, is_past_port_line}
 use Rattle.session_text.specs.Sessions.{IsSidOf, IsDatum, IsPlace, MayPort, MayNode, MayClient}
 use Rattle.session_text.specs.declared.session.SessionParts.{SessionParts}
-use Rattle.session_text.proofs.CallLemmas.{if_ok}
+use Rattle.session_text.proofs.ArgumentLemmas.{if_ok}
 use Rattle.session_text.proofs.LimitLemmas.{neither, path_formed, written, place_formed, sid_within}
 
 -- a list that is not at its limit

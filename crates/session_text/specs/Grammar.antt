@@ -1,7 +1,7 @@
 -- What a line of a session text asks of the lines above it, and what it adds to them.
 use Rattle.std.specs.Prelude.{ℕ, Bool, true, false, ◌||◌, not, ◌==◌, nat_le, nat_lt, List, [], ◌∷◌, ◌++◌, length, Option, Some, None, Result, Ok, Err, if◌then◌else◌, codes}
 use Rattle.std.specs.Str.{bytes_eq}
-use Rattle.flask_sid.specs.Names.{is_long}
+use Rattle.flask_sid.specs.Names.{is_name_form, is_long}
 use Rattle.flask_sid.specs.Contexts.{is_long_context}
 use Rattle.flask_sid.specs.declared.context.ContextOf.{ContextOf}
 use Rattle.text_lines.specs.declared.fault.FaultKind.{FaultKind}
@@ -11,26 +11,17 @@ use Rattle.text_lines.specs.ResultSteps.{◌>>=◌, found_or}
 use Rattle.policy_model.specs.declared.policy.ContextLine.{ContextLine}
 use Rattle.file_calls.specs.Openings.{has_node, is_parent_there}
 use Rattle.file_calls.specs.declared.call.FileCall.{FileCall}
-use Rattle.file_calls.specs.declared.call.FileCall.TheVariants as call
 use Rattle.file_calls.specs.declared.opening.Node.{Node}
-use Rattle.session_forms.specs.PathForms.{is_long_path}
-use Rattle.session_forms.specs.RunForms.{run_form}
-use Rattle.session_forms.specs.Ranges.{is_long_data, is_past_place, is_past_call}
-use Rattle.session_forms.specs.declared.call_forms.CallForm.{CallForm}
 use Rattle.process_calls.specs.declared.call.ProcessCall.{ProcessCall}
-use Rattle.process_calls.specs.declared.call.ProcessCall.TheVariants as process_calls
 use Rattle.port_calls.specs.declared.call.PortCall.{PortCall}
-use Rattle.port_calls.specs.declared.call.PortCall.TheVariants as port_calls
-use Rattle.session_forms.specs.declared.call_forms.CallForm.TheVariants.{OfFile, OfProcess, OfPort}
-use Rattle.session_forms.specs.declared.call_forms.FileForm.{FileForm}
-use Rattle.session_forms.specs.declared.call_forms.FileForm.TheVariants as file
-use Rattle.session_forms.specs.declared.call_forms.ProcessForm.{ProcessForm}
-use Rattle.session_forms.specs.declared.call_forms.ProcessForm.TheVariants as process
-use Rattle.session_forms.specs.declared.call_forms.PortForm.{PortForm}
-use Rattle.session_forms.specs.declared.call_forms.PortForm.TheVariants as port
+use Rattle.session_forms.specs.PathForms.{is_long_path}
+use Rattle.session_forms.specs.Ranges.{is_long_data, is_past_place}
+use Rattle.session_forms.specs.FirstFaults.{both}
+use Rattle.session_forms.specs.Arguments.{is_end, of_one}
+use Rattle.session_forms.specs.ArgumentTypes.{value_of, version_of}
+use Rattle.session_forms.specs.RunForms.{manager_of}
 use Rattle.session_forms.specs.declared.run_forms.Manager.{Manager}
-use Rattle.session_forms.specs.declared.run_forms.RunForm.{RunForm}
-use Rattle.session_forms.specs.declared.run_forms.RunForm.TheVariants as form
+use Rattle.session_forms.specs.declared.run_forms.Manager.TheVariants as manager
 use Rattle.session_forms.specs.declared.setup_forms.Initial.{Initial}
 use Rattle.session_forms.specs.declared.setup_forms.Initial.TheVariants.{Root, Ports}
 use Rattle.session_text.specs.declared.session.ClientLine.{ClientLine}
@@ -38,6 +29,7 @@ use Rattle.session_text.specs.declared.session.Run.{Run}
 use Rattle.session_text.specs.declared.session.Run.TheVariants.{File, Process, Port, Begin, End, Notify, Update, Ack, Force}
 use Rattle.session_text.specs.declared.session.SessionParts.{SessionParts}
 use Rattle.session_text.specs.Above.{node_limit, port_limit, client_limit, context_sid, client_number, has_client, has_port}
+use Rattle.session_text.specs.Calls.{client_of, file_call, process_call, port_call}
 use Rattle.session_text.specs.Sessions.{is_held}
 
 -- the bytes of a file: none without a datum
@@ -175,91 +167,76 @@ holds manager session name = number_holds (client_number session.clients name)
     number_holds None = false
     number_holds (Some client) = is_held session.lines client manager
 
--- the call of the file manager: a receiver is the client of its name, and a context's identifier its place
-unfoldable pub file_call : List ContextLine → List ClientLine → FileForm → Result FileCall FaultKind
-file_call contexts clients (file.Mkdir path) = Ok (call.Mkdir path)
-file_call contexts clients (file.Create path) = Ok (call.Create path)
-file_call contexts clients (file.Unlink path) = Ok (call.Unlink path)
-file_call contexts clients (file.Open slot path mode) = Ok (call.OpenFile slot path mode)
-file_call contexts clients (file.Read slot offset most) = Ok (call.ReadFile slot offset most)
-file_call contexts clients (file.Write slot offset bytes) = Ok (call.WriteFile slot offset bytes)
-file_call contexts clients (file.Append slot bytes) = Ok (call.AppendFile slot bytes)
-file_call contexts clients (file.Close slot) = Ok (call.CloseFile slot)
-file_call contexts clients (file.List path skip) = Ok (call.List path skip)
-file_call contexts clients (file.Stat path) = Ok (call.StatFile path)
-file_call contexts clients (file.Relabel path context) = found_or Undeclared (context_sid contexts context) >>= λ sid. Ok (call.Relabel path sid)
-file_call contexts clients (file.Give slot client target) = found_or Unknown (client_number clients client) >>= λ number. Ok (call.Give slot number target)
+-- a client's call: what is wrong with the client and with the call is told by the kind that is asked first
+abbrev pub file_run : Result ℕ FaultKind → Result FileCall FaultKind → Result Run FaultKind
+file_run client call = both client call >>= λ said. Ok (File said.0 said.1)
 
--- the call of the process manager, with the identifier of its context
-unfoldable pub process_call : List ContextLine → ProcessForm → Result ProcessCall FaultKind
-process_call contexts (process.Fork pid) = Ok (process_calls.Fork pid)
-process_call contexts (process.Exec pid context) = found_or Undeclared (context_sid contexts context) >>= λ sid. Ok (process_calls.Exec pid sid)
-process_call contexts (process.Signal pid number) = Ok (process_calls.Signal pid number)
-process_call contexts (process.Exit pid code) = Ok (process_calls.Exit pid code)
-process_call contexts (process.Wait pid) = Ok (process_calls.Wait pid)
-process_call contexts (process.Attach slot pid) = Ok (process_calls.Attach slot pid)
-process_call contexts (process.Peek slot) = Ok (process_calls.Peek slot)
-process_call contexts (process.Poke slot value) = Ok (process_calls.Poke slot value)
-process_call contexts (process.Detach slot) = Ok (process_calls.Detach slot)
-process_call contexts (process.Stat pid) = Ok (process_calls.StatProcess pid)
+abbrev pub process_run : Result ℕ FaultKind → Result ProcessCall FaultKind → Result Run FaultKind
+process_run client call = both client call >>= λ said. Ok (Process said.0 said.1)
 
--- the call of the port manager
-unfoldable pub port_call : PortForm → PortCall
-port_call (port.Bind slot number mode) = port_calls.Bind slot number mode
-port_call (port.Connect slot number mode) = port_calls.Connect slot number mode
-port_call (port.Recv slot) = port_calls.Recv slot
-port_call (port.Push slot bytes) = port_calls.Push slot bytes
-port_call (port.Send number bytes) = port_calls.Send number bytes
-port_call (port.Unbind slot) = port_calls.Unbind slot
-port_call (port.Stat number) = port_calls.StatPort number
+abbrev pub port_run : Result ℕ FaultKind → Result PortCall FaultKind → Result Run FaultKind
+port_run client call = both client call >>= λ said. Ok (Port said.0 said.1)
 
--- what a client's call asks: what it names is declared
-unfoldable pub asked_call : SessionParts → ℕ → CallForm → Result Run FaultKind
-asked_call session client (OfFile said) = file_call session.policy.contexts session.clients said >>= λ call. Ok (File client call)
-asked_call session client (OfProcess said) = process_call session.policy.contexts said >>= λ call. Ok (Process client call)
-asked_call session client (OfPort said) = Ok (Port client (port_call said))
+-- a call of a manager by the client of that name
+unfoldable pub call_run : SessionParts → List ℕ → Manager → List ℕ → List (List ℕ) → Result Run FaultKind
+call_run session name manager.File call words =
+    file_run (client_of session.clients name) (file_call session.policy.contexts session.clients call words)
+call_run session name manager.Process call words =
+    process_run (client_of session.clients name) (process_call session.policy.contexts call words)
+call_run session name manager.Port call words = port_run (client_of session.clients name) (port_call call words)
 
--- a client's call, line n
-unfoldable pub client_call_read : ℕ → List ℕ → CallForm → SessionParts → Result SessionParts FaultKind
-client_call_read n name said session =
-    if is_long name || is_past_call said then Err Limit
-    else found_or Unknown (client_number session.clients name) >>= λ client. asked_call session client said >>= λ run. Ok (with_line n run session)
+-- what stands alone in its line, with no word left
+abbrev pub alone : List (List ℕ) → Run → Result Run FaultKind
+alone words run = if is_end words then Ok run else Err Syntax
 
--- a `begin` line
-unfoldable pub begin_read : ℕ → List ℕ → Manager → SessionParts → Result SessionParts FaultKind
-begin_read n name manager session =
-    if holds manager session name then Err Order
-    else if is_long name then Err Limit
-    else found_or Unknown (client_number session.clients name) >>= λ client. Ok (with_line n (Begin client manager) session)
+-- a client takes a pass of a manager, of which it holds none
+unfoldable pub begin_run : SessionParts → List ℕ → Manager → List (List ℕ) → Result Run FaultKind
+begin_run session name manager words =
+    if not (is_end words) then Err Syntax
+    else if holds manager session name then Err Order
+    else client_of session.clients name >>= λ client. Ok (Begin client manager)
 
--- an `end` line
-unfoldable pub end_read : ℕ → List ℕ → Manager → SessionParts → Result SessionParts FaultKind
-end_read n name manager session =
-    if not (holds manager session name) then Err Order
-    else found_or Unknown (client_number session.clients name) >>= λ client. Ok (with_line n (End client manager) session)
+-- a client gives back the pass of a manager that it holds
+unfoldable pub end_run : SessionParts → List ℕ → Manager → List (List ℕ) → Result Run FaultKind
+end_run session name manager words =
+    if not (is_end words) then Err Syntax
+    else if not (holds manager session name) then Err Order
+    else client_of session.clients name >>= λ client. Ok (End client manager)
 
--- a `notify` line
-unfoldable pub notify_read : ℕ → ℕ → SessionParts → Result SessionParts FaultKind
-notify_read n version session = if nat_lt 255 version then Err Limit else Ok (with_line n (Notify version) session)
+-- what the client of that name asks of a manager: a pass, to give it back, or a call
+unfoldable pub asked_run : SessionParts → List ℕ → Manager → List (List ℕ) → Result Run FaultKind
+asked_run session name manager [] = Err Syntax
+asked_run session name manager (call ∷ words) =
+    if bytes_eq call (codes "begin") then begin_run session name manager words
+    else if bytes_eq call (codes "end") then end_run session name manager words
+    else call_run session name manager call words
 
--- an `update` line
-unfoldable pub update_read : ℕ → ℕ → SessionParts → Result SessionParts FaultKind
-update_read n most session = if nat_lt 4294967295 most then Err Limit else Ok (with_line n (Update most) session)
+-- a line of the client of that name: a manager, and what is asked of it
+unfoldable pub client_run : SessionParts → List ℕ → List (List ℕ) → Result Run FaultKind
+client_run session name [] = Err Syntax
+client_run session name (word ∷ words) = found_or Syntax (manager_of word) >>= λ manager. asked_run session name manager words
 
--- a line of this form that runs
-unfoldable pub run_read : ℕ → RunForm → SessionParts → Result SessionParts FaultKind
-run_read n (form.Call name said) session = client_call_read n name said session
-run_read n (form.Begin name manager) session = begin_read n name manager session
-run_read n (form.End name manager) session = end_read n name manager session
-run_read n (form.Notify version) session = notify_read n version session
-run_read n (form.Update most) session = update_read n most session
-run_read n form.Ack session = Ok (with_line n Ack session)
-run_read n form.Force session = Ok (with_line n Force session)
+-- a line of the administrator
+unfoldable pub admin_run : List (List ℕ) → Result Run FaultKind
+admin_run [] = Err Syntax
+admin_run (what ∷ words) =
+    if bytes_eq what (codes "notify") then (of_one version_of words >>= λ ver. Ok (Notify ver))
+    else if bytes_eq what (codes "update") then (of_one value_of words >>= λ most. Ok (Update most))
+    else if bytes_eq what (codes "ack") then alone words Ack
+    else if bytes_eq what (codes "force") then alone words Force
+    else Err Syntax
+
+-- what a line that runs asks, by its first word
+unfoldable pub run_of : SessionParts → List ℕ → List (List ℕ) → Result Run FaultKind
+run_of session first words =
+    if bytes_eq first (codes "admin") then admin_run words
+    else if is_name_form first then client_run session first words
+    else Err Syntax
 
 -- what a line that runs says, if anything
 unfoldable pub run_words_read : ℕ → List (List ℕ) → SessionParts → Result SessionParts FaultKind
 run_words_read n [] session = Ok session
-run_words_read n (first ∷ words) session = found_or Syntax (run_form first words) >>= λ said. run_read n said session
+run_words_read n (first ∷ words) session = run_of session first words >>= λ run. Ok (with_line n run session)
 
 -- line number n, which runs
 unfoldable pub run_line_read : ℕ → List ℕ → SessionParts → Result SessionParts FaultKind

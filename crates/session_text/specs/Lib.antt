@@ -1,6 +1,7 @@
 pub mod Above
 pub mod Sessions
 pub mod Passes
+pub mod Calls
 pub mod Grammar
 pub mod Progress
 pub mod Indexed

@@ -1,277 +1,420 @@
-//! Calls, put together from what their words say. What they name is declared.
+//! The table of calls: the words of each call behind its name, and the call that they make.
 
-ghost use Rattle.std.specs.Prelude.{◌≡◌, false, IfOk};
+ghost use Rattle.std.specs.Prelude.{◌≡◌};
 ghost use Rattle.text_lines.specs.Refusals.{Gives};
-ghost use Rattle.file_calls.specs.declared.call.FileCall.TheVariants as call;
-ghost use Rattle.session_forms.specs.Ranges;
-ghost use Rattle.session_forms.specs.declared.call_forms.FileForm.TheVariants as file;
-ghost use Rattle.session_forms.specs.declared.call_forms.ProcessForm.TheVariants as process;
-ghost use Rattle.session_text.specs.Grammar;
+ghost use Rattle.session_forms.specs.Arguments;
+ghost use Rattle.session_forms.specs.ArgumentTypes;
+ghost use Rattle.session_text.specs.Calls;
 
 use crate::running::Running;
-use crate::session::Run;
-use access_vectors::Vector;
-use file_calls::FileCall;
-use flask_sid::{ContextOf, Memory, Piece, Word};
+use file_calls::{FileCall, FilePath};
+use flask_sid::{Piece, Sid, Word, context_form};
 use port_calls::PortCall;
 use process_calls::ProcessCall;
-use session_forms::{CallForm, FileForm, Parts, PortForm, ProcessForm};
+use session_forms::{
+    bind_mode_of, both, call_names as name, code_of, connect_mode_of, datum_of, entry_of, judged,
+    length_of, mode_of, offset_of, one_word, path_of, pid_of, port_of, signal_of, skip_of, slot_of,
+    three_words, two_words, value_of,
+};
 use std::alloc::Global;
-use text_lines::{FaultKind, Refusal};
+use text_lines::{FaultKind, Refusal, Words};
 
-/// What a client's call asks.
-#[tactic(auto, unfolding(crate::specs::Grammar::asked_call, session_forms::specs::Ranges::is_past_call))]
-pub(crate) fn asked_call<'a>(
-    alloc: Global,
-    running: &Running<'a>,
-    client: u8,
-    form: &CallForm<'a>,
-) -> Result<Run, Refusal>
-    requires { Ranges.is_past_call form.now ≡ false }
-    ensures { Gives result (Grammar.asked_call running.now client form.now) }
+/// A context, by its identifier. `Syntax` where the word is none, `Limit` where it is too long, `Undeclared` where no
+/// line declares it.
+#[tactic(auto, unfolding(crate::specs::Calls::context_of))]
+fn context_of<'a>(running: &Running<'a>, word: &Word<'a>) -> Result<Sid, FaultKind>
+    ensures { result ≡ Calls.context_of running.now.policy.contexts word.now }
 {
-    match form {
-        CallForm::OfFile(form) => {
-            let call = file_call(alloc, running, form)?;
-            Ok(Run::File { client, call })
-        }
-        CallForm::OfProcess(form) => {
-            let call = process_call(running, form)?;
-            Ok(Run::Process { client, call })
-        }
-        CallForm::OfPort(form) => {
-            let call = port_call(alloc, form)?;
-            Ok(Run::Port { client, call })
-        }
+    let Some(context) = context_form(word.as_bytes()) else {
+        return Err(FaultKind::Syntax);
+    };
+    if context.is_long() {
+        return Err(FaultKind::Limit);
+    }
+    match running.sid(&context) {
+        None => Err(FaultKind::Undeclared),
+        Some(sid) => Ok(sid),
     }
 }
 
-/// The call of the file manager.
-#[tactic(auto, unfolding(crate::specs::Grammar::file_call))]
-fn file_call<'a>(
+/// A client, by its number. `Limit` where its name is too long, `Unknown` where no line declares it.
+#[tactic(auto, unfolding(crate::specs::Calls::client_of))]
+pub(crate) fn client_of<'a>(running: &Running<'a>, word: &Word<'a>) -> Result<u8, FaultKind>
+    ensures { result ≡ Calls.client_of running.now.clients word.now }
+{
+    if word.is_long() {
+        return Err(FaultKind::Limit);
+    }
+    match running.number(word) {
+        None => Err(FaultKind::Unknown),
+        Some(client) => Ok(client),
+    }
+}
+
+/// A client that any word names. `Syntax` where the word is no name.
+#[tactic(auto, unfolding(crate::specs::Calls::receiver_of))]
+fn receiver_of<'a>(running: &Running<'a>, word: &Word<'a>) -> Result<u8, FaultKind>
+    ensures { result ≡ Calls.receiver_of running.now.clients word.now }
+{
+    if word.is_name_form() {
+        client_of(running, word)
+    } else {
+        Err(FaultKind::Syntax)
+    }
+}
+
+/// A call of the file manager.
+#[tactic(auto, unfolding(crate::specs::Calls::file_call))]
+pub(crate) fn file_call<'a>(
     alloc: Global,
     running: &Running<'a>,
-    form: &FileForm<'a>,
+    call: &Word<'a>,
+    words: Words<'a>,
 ) -> Result<FileCall, Refusal>
-    requires { Ranges.is_past_file form.now ≡ false }
-    ensures { Gives result (Grammar.file_call running.now.policy.contexts running.now.clients form.now) }
+    ensures { Gives result (Calls.file_call running.now.policy.contexts running.now.clients call.now words.entry) }
 {
-    match form {
-        FileForm::Mkdir(path) => Ok(FileCall::Mkdir {
-            path: path.kept(alloc)?,
-        }),
-        FileForm::Create(path) => Ok(FileCall::Create {
-            path: path.kept(alloc)?,
-        }),
-        FileForm::Unlink(path) => Ok(FileCall::Unlink {
-            path: path.kept(alloc)?,
-        }),
-        FileForm::Open(slot, path, mode) => Ok(open_call(alloc, *slot, path, *mode)?),
-        FileForm::Read(slot, offset, most) => Ok(read_call(*slot, *offset, *most)),
-        FileForm::Write(slot, offset, bytes) => Ok(write_call(alloc, *slot, *offset, bytes)?),
-        FileForm::Append(slot, bytes) => Ok(append_call(alloc, *slot, bytes)?),
-        FileForm::Close(slot) => Ok(close_call(*slot)),
-        FileForm::List(path, skip) => Ok(list_call(alloc, path, *skip)?),
-        FileForm::Stat(path) => Ok(FileCall::StatFile {
-            path: path.kept(alloc)?,
-        }),
-        FileForm::Relabel(path, context) => relabel_call(alloc, running, path, context),
-        FileForm::Give(slot, client, target) => give_call(running, *slot, client, *target),
+    if call.is(name::MKDIR) {
+        let path = kept_entry(alloc, words)?;
+        return Ok(FileCall::Mkdir { path });
     }
+    if call.is(name::CREATE) {
+        let path = kept_entry(alloc, words)?;
+        return Ok(FileCall::Create { path });
+    }
+    if call.is(name::OPEN_FILE) {
+        return open_call(alloc, words);
+    }
+    if call.is(name::READ_FILE) {
+        return judged(read_call(words));
+    }
+    if call.is(name::WRITE_FILE) {
+        return write_call(alloc, words);
+    }
+    if call.is(name::APPEND_FILE) {
+        return append_call(alloc, words);
+    }
+    if call.is(name::CLOSE_FILE) {
+        return judged(close_call(words));
+    }
+    if call.is(name::UNLINK) {
+        let path = kept_entry(alloc, words)?;
+        return Ok(FileCall::Unlink { path });
+    }
+    if call.is(name::LIST) {
+        return list_call(alloc, words);
+    }
+    if call.is(name::STAT) {
+        let path = kept_path(alloc, words)?;
+        return Ok(FileCall::StatFile { path });
+    }
+    if call.is(name::RELABEL) {
+        return relabel_call(alloc, running, words);
+    }
+    if call.is(name::GIVE) {
+        return judged(give_call(running, words));
+    }
+    Err(Refusal::Fault(FaultKind::Syntax))
 }
 
-/// `open`, within its limits.
-#[tactic(auto, unfolding(session_forms::specs::Ranges::is_past_file))]
-fn open_call(alloc: Global, slot: u64, path: &Parts<'_>, mode: Vector) -> Result<FileCall, Memory>
-    requires { Ranges.is_past_file (file.Open slot path.now mode) ≡ false }
-    ensures { IfOk result (λ said. said ≡ call.OpenFile slot path.now mode) }
+/// A path alone, kept.
+fn kept_path(alloc: Global, words: Words<'_>) -> Result<FilePath, Refusal>
+    ensures { Gives result (Arguments.of_one ArgumentTypes.path_of words.entry) }
 {
+    let word = judged(one_word(words))?;
+    let path = judged(path_of(&word))?;
+    Ok(path.kept(alloc)?)
+}
+
+/// A path below the root alone, kept.
+fn kept_entry(alloc: Global, words: Words<'_>) -> Result<FilePath, Refusal>
+    ensures { Gives result (Arguments.of_one ArgumentTypes.entry_of words.entry) }
+{
+    let word = judged(one_word(words))?;
+    let path = judged(entry_of(&word))?;
+    Ok(path.kept(alloc)?)
+}
+
+/// `open SLOT PATH MODE`
+fn open_call(alloc: Global, words: Words<'_>) -> Result<FileCall, Refusal>
+    ensures { Gives result (Calls.open_call words.entry) }
+{
+    let (slot, path, mode) = judged(three_words(words))?;
+    let rest = both(path_of(&path), mode_of(&mode));
+    let (slot, (path, mode)) = judged(both(slot_of(&slot), rest))?;
     let path = path.kept(alloc)?;
-    Ok(FileCall::OpenFile {
-        slot: slot as u8,
-        path,
-        mode,
+    Ok(FileCall::OpenFile { slot, path, mode })
+}
+
+/// `read SLOT OFFSET LENGTH`
+fn read_call(words: Words<'_>) -> Result<FileCall, FaultKind>
+    ensures { result ≡ Calls.read_call words.entry }
+{
+    let (slot, offset, length) = three_words(words)?;
+    let range = both(offset_of(&offset), length_of(&length));
+    let (slot, (offset, length)) = both(slot_of(&slot), range)?;
+    Ok(FileCall::ReadFile {
+        slot,
+        offset,
+        length,
     })
 }
 
-/// `read`, within its limits.
-#[tactic(auto, unfolding(session_forms::specs::Ranges::is_past_file))]
-fn read_call(slot: u64, offset: u64, most: u64) -> FileCall
-    requires { Ranges.is_past_file (file.Read slot offset most) ≡ false }
-    ensures { result ≡ call.ReadFile slot offset most }
+/// `write SLOT OFFSET DATA`
+fn write_call(alloc: Global, words: Words<'_>) -> Result<FileCall, Refusal>
+    ensures { Gives result (Calls.write_call words.entry) }
 {
-    FileCall::ReadFile {
-        slot: slot as u8,
-        offset: offset as u32,
-        length: most as u32,
-    }
-}
-
-/// `write`, within its limits.
-#[tactic(auto, unfolding(session_forms::specs::Ranges::is_past_file))]
-fn write_call(alloc: Global, slot: u64, offset: u64, bytes: &Word<'_>) -> Result<FileCall, Memory>
-    requires { Ranges.is_past_file (file.Write slot offset bytes.now) ≡ false }
-    ensures { IfOk result (λ said. said ≡ call.WriteFile slot offset bytes.now) }
-{
-    let piece = Piece::of(alloc, bytes.as_bytes())?;
+    let (slot, offset, datum) = judged(three_words(words))?;
+    let rest = both(offset_of(&offset), datum_of(datum));
+    let (slot, (offset, datum)) = judged(both(slot_of(&slot), rest))?;
+    let piece = Piece::of(alloc, datum.as_bytes())?;
     Ok(FileCall::WriteFile {
-        slot: slot as u8,
-        offset: offset as u32,
+        slot,
+        offset,
         piece,
     })
 }
 
-/// `append`, within its limits.
-#[tactic(auto, unfolding(session_forms::specs::Ranges::is_past_file))]
-fn append_call(alloc: Global, slot: u64, bytes: &Word<'_>) -> Result<FileCall, Memory>
-    requires { Ranges.is_past_file (file.Append slot bytes.now) ≡ false }
-    ensures { IfOk result (λ said. said ≡ call.AppendFile slot bytes.now) }
+/// `append SLOT DATA`
+fn append_call(alloc: Global, words: Words<'_>) -> Result<FileCall, Refusal>
+    ensures { Gives result (Calls.append_call words.entry) }
 {
-    let piece = Piece::of(alloc, bytes.as_bytes())?;
-    Ok(FileCall::AppendFile {
-        slot: slot as u8,
-        piece,
-    })
+    let (slot, datum) = judged(two_words(words))?;
+    let (slot, datum) = judged(both(slot_of(&slot), datum_of(datum)))?;
+    let piece = Piece::of(alloc, datum.as_bytes())?;
+    Ok(FileCall::AppendFile { slot, piece })
 }
 
-/// `close`, within its limit.
-#[tactic(auto, unfolding(session_forms::specs::Ranges::is_past_file))]
-fn close_call(slot: u64) -> FileCall
-    requires { Ranges.is_past_file (file.Close slot) ≡ false }
-    ensures { result ≡ call.CloseFile slot }
+/// `close SLOT`
+fn close_call(words: Words<'_>) -> Result<FileCall, FaultKind>
+    ensures { result ≡ Calls.close_call words.entry }
 {
-    FileCall::CloseFile { slot: slot as u8 }
+    let slot = slot_of(&one_word(words)?)?;
+    Ok(FileCall::CloseFile { slot })
 }
 
-/// `list`, within its limits.
-#[tactic(auto, unfolding(session_forms::specs::Ranges::is_past_file))]
-fn list_call(alloc: Global, path: &Parts<'_>, skip: u64) -> Result<FileCall, Memory>
-    requires { Ranges.is_past_file (file.List path.now skip) ≡ false }
-    ensures { IfOk result (λ said. said ≡ call.List path.now skip) }
+/// `list PATH SKIP`
+fn list_call(alloc: Global, words: Words<'_>) -> Result<FileCall, Refusal>
+    ensures { Gives result (Calls.list_call words.entry) }
 {
+    let (path, skip) = judged(two_words(words))?;
+    let (path, skip) = judged(both(path_of(&path), skip_of(&skip)))?;
     let path = path.kept(alloc)?;
-    Ok(FileCall::List {
-        path,
-        skip: skip as u32,
-    })
+    Ok(FileCall::List { path, skip })
 }
 
-/// `relabel`, whose context has to be declared.
-#[tactic(auto, unfolding(crate::specs::Grammar::file_call))]
+/// `relabel PATH CONTEXT`
 fn relabel_call<'a>(
     alloc: Global,
     running: &Running<'a>,
-    path: &Parts<'a>,
-    context: &ContextOf<Word<'a>>,
+    words: Words<'a>,
 ) -> Result<FileCall, Refusal>
-    ensures { Gives result (Grammar.file_call running.now.policy.contexts running.now.clients (file.Relabel path.now context.now)) }
+    ensures { Gives result (Calls.relabel_call running.now.policy.contexts words.entry) }
 {
-    let Some(sid) = running.sid(context) else {
-        return Err(Refusal::Fault(FaultKind::Undeclared));
-    };
+    let (path, context) = judged(two_words(words))?;
+    let (path, sid) = judged(both(path_of(&path), context_of(running, &context)))?;
     let path = path.kept(alloc)?;
     Ok(FileCall::Relabel { path, sid })
 }
 
-/// `give`, within its limits, whose receiver has to be declared.
-#[tactic(auto, unfolding(crate::specs::Grammar::file_call, session_forms::specs::Ranges::is_past_file))]
-fn give_call<'a>(
-    running: &Running<'a>,
-    slot: u64,
-    client: &Word<'a>,
-    target: u64,
-) -> Result<FileCall, Refusal>
-    requires { Ranges.is_past_file (file.Give slot client.now target) ≡ false }
-    ensures { Gives result (Grammar.file_call running.now.policy.contexts running.now.clients (file.Give slot client.now target)) }
+/// `give SLOT CLIENT SLOT`
+fn give_call<'a>(running: &Running<'a>, words: Words<'a>) -> Result<FileCall, FaultKind>
+    ensures { result ≡ Calls.give_call running.now.clients words.entry }
 {
-    let Some(client) = running.number(client) else {
-        return Err(Refusal::Fault(FaultKind::Unknown));
-    };
+    let (slot, client, target) = three_words(words)?;
+    let rest = both(receiver_of(running, &client), slot_of(&target));
+    let (slot, (client, target)) = both(slot_of(&slot), rest)?;
     Ok(FileCall::Give {
-        slot: slot as u8,
+        slot,
         client,
-        target: target as u8,
+        target,
     })
 }
 
-/// The call of the process manager, whose context has to be declared.
-#[tactic(auto, unfolding(crate::specs::Grammar::process_call, session_forms::specs::Ranges::is_past_process))]
-fn process_call<'a>(running: &Running<'a>, form: &ProcessForm<'a>) -> Result<ProcessCall, Refusal>
-    requires { Ranges.is_past_process form.now ≡ false }
-    ensures { Gives result (Grammar.process_call running.now.policy.contexts form.now) }
-{
-    match form {
-        ProcessForm::Exec(pid, context) => exec_call(running, *pid, context),
-        ProcessForm::Fork(pid) => Ok(ProcessCall::Fork { pid: *pid as u32 }),
-        ProcessForm::Signal(pid, number) => Ok(ProcessCall::Signal {
-            pid: *pid as u32,
-            number: *number as u32,
-        }),
-        ProcessForm::Exit(pid, code) => Ok(ProcessCall::Exit {
-            pid: *pid as u32,
-            code: *code as u32,
-        }),
-        ProcessForm::Wait(pid) => Ok(ProcessCall::Wait { pid: *pid as u32 }),
-        ProcessForm::Attach(slot, pid) => Ok(ProcessCall::Attach {
-            slot: *slot as u8,
-            pid: *pid as u32,
-        }),
-        ProcessForm::Peek(slot) => Ok(ProcessCall::Peek { slot: *slot as u8 }),
-        ProcessForm::Poke(slot, value) => Ok(ProcessCall::Poke {
-            slot: *slot as u8,
-            value: *value as u32,
-        }),
-        ProcessForm::Detach(slot) => Ok(ProcessCall::Detach { slot: *slot as u8 }),
-        ProcessForm::Stat(pid) => Ok(ProcessCall::StatProcess { pid: *pid as u32 }),
-    }
-}
-
-/// `exec`, whose context has to be declared.
-#[tactic(auto, unfolding(crate::specs::Grammar::process_call, session_forms::specs::Ranges::is_past_process))]
-fn exec_call<'a>(
+/// A call of the process manager.
+#[tactic(auto, unfolding(crate::specs::Calls::process_call))]
+pub(crate) fn process_call<'a>(
     running: &Running<'a>,
-    pid: u64,
-    context: &ContextOf<Word<'a>>,
-) -> Result<ProcessCall, Refusal>
-    requires { Ranges.is_past_process (process.Exec pid context.now) ≡ false }
-    ensures { Gives result (Grammar.process_call running.now.policy.contexts (process.Exec pid context.now)) }
+    call: &Word<'a>,
+    words: Words<'a>,
+) -> Result<ProcessCall, FaultKind>
+    ensures { result ≡ Calls.process_call running.now.policy.contexts call.now words.entry }
 {
-    let Some(sid) = running.sid(context) else {
-        return Err(Refusal::Fault(FaultKind::Undeclared));
-    };
-    Ok(ProcessCall::Exec {
-        pid: pid as u32,
-        sid,
-    })
+    if call.is(name::FORK) {
+        let pid = only_pid(words)?;
+        return Ok(ProcessCall::Fork { pid });
+    }
+    if call.is(name::EXEC) {
+        return exec_call(running, words);
+    }
+    if call.is(name::SIGNAL) {
+        return signal_call(words);
+    }
+    if call.is(name::EXIT) {
+        return exit_call(words);
+    }
+    if call.is(name::WAIT) {
+        let pid = only_pid(words)?;
+        return Ok(ProcessCall::Wait { pid });
+    }
+    if call.is(name::ATTACH) {
+        return attach_call(words);
+    }
+    if call.is(name::PEEK) {
+        let slot = only_slot(words)?;
+        return Ok(ProcessCall::Peek { slot });
+    }
+    if call.is(name::POKE) {
+        return poke_call(words);
+    }
+    if call.is(name::DETACH) {
+        let slot = only_slot(words)?;
+        return Ok(ProcessCall::Detach { slot });
+    }
+    if call.is(name::STAT) {
+        let pid = only_pid(words)?;
+        return Ok(ProcessCall::StatProcess { pid });
+    }
+    Err(FaultKind::Syntax)
 }
 
-/// The call of the port manager.
-#[tactic(auto, unfolding(crate::specs::Grammar::port_call, session_forms::specs::Ranges::is_past_port))]
-fn port_call(alloc: Global, form: &PortForm<'_>) -> Result<PortCall, Memory>
-    requires { Ranges.is_past_port form.now ≡ false }
-    ensures { IfOk result (λ call. call ≡ Grammar.port_call form.now) }
+/// A slot alone.
+fn only_slot(words: Words<'_>) -> Result<u8, FaultKind>
+    ensures { result ≡ Arguments.of_one ArgumentTypes.slot_of words.entry }
 {
-    match form {
-        PortForm::Bind(slot, port, mode) => Ok(PortCall::Bind {
-            slot: *slot as u8,
-            port: *port as u32,
-            mode: *mode,
-        }),
-        PortForm::Connect(slot, port, mode) => Ok(PortCall::Connect {
-            slot: *slot as u8,
-            port: *port as u32,
-            mode: *mode,
-        }),
-        PortForm::Recv(slot) => Ok(PortCall::Recv { slot: *slot as u8 }),
-        PortForm::Push(slot, bytes) => Ok(PortCall::Push {
-            slot: *slot as u8,
-            piece: Piece::of(alloc, bytes.as_bytes())?,
-        }),
-        PortForm::Send(port, bytes) => Ok(PortCall::Send {
-            port: *port as u32,
-            piece: Piece::of(alloc, bytes.as_bytes())?,
-        }),
-        PortForm::Unbind(slot) => Ok(PortCall::Unbind { slot: *slot as u8 }),
-        PortForm::Stat(port) => Ok(PortCall::StatPort { port: *port as u32 }),
+    slot_of(&one_word(words)?)
+}
+
+/// The number of a process alone.
+fn only_pid(words: Words<'_>) -> Result<u32, FaultKind>
+    ensures { result ≡ Arguments.of_one ArgumentTypes.pid_of words.entry }
+{
+    pid_of(&one_word(words)?)
+}
+
+/// `exec PID CONTEXT`
+fn exec_call<'a>(running: &Running<'a>, words: Words<'a>) -> Result<ProcessCall, FaultKind>
+    ensures { result ≡ Calls.exec_call running.now.policy.contexts words.entry }
+{
+    let (pid, context) = two_words(words)?;
+    let (pid, sid) = both(pid_of(&pid), context_of(running, &context))?;
+    Ok(ProcessCall::Exec { pid, sid })
+}
+
+/// `signal PID SIGNAL`
+fn signal_call(words: Words<'_>) -> Result<ProcessCall, FaultKind>
+    ensures { result ≡ Calls.signal_call words.entry }
+{
+    let (pid, number) = two_words(words)?;
+    let (pid, number) = both(pid_of(&pid), signal_of(&number))?;
+    Ok(ProcessCall::Signal { pid, number })
+}
+
+/// `exit PID CODE`
+fn exit_call(words: Words<'_>) -> Result<ProcessCall, FaultKind>
+    ensures { result ≡ Calls.exit_call words.entry }
+{
+    let (pid, code) = two_words(words)?;
+    let (pid, code) = both(pid_of(&pid), code_of(&code))?;
+    Ok(ProcessCall::Exit { pid, code })
+}
+
+/// `attach SLOT PID`
+fn attach_call(words: Words<'_>) -> Result<ProcessCall, FaultKind>
+    ensures { result ≡ Calls.attach_call words.entry }
+{
+    let (slot, pid) = two_words(words)?;
+    let (slot, pid) = both(slot_of(&slot), pid_of(&pid))?;
+    Ok(ProcessCall::Attach { slot, pid })
+}
+
+/// `poke SLOT VALUE`
+fn poke_call(words: Words<'_>) -> Result<ProcessCall, FaultKind>
+    ensures { result ≡ Calls.poke_call words.entry }
+{
+    let (slot, value) = two_words(words)?;
+    let (slot, value) = both(slot_of(&slot), value_of(&value))?;
+    Ok(ProcessCall::Poke { slot, value })
+}
+
+/// A call of the port manager.
+#[tactic(auto, unfolding(crate::specs::Calls::port_call))]
+pub(crate) fn port_call(
+    alloc: Global,
+    call: &Word<'_>,
+    words: Words<'_>,
+) -> Result<PortCall, Refusal>
+    ensures { Gives result (Calls.port_call call.now words.entry) }
+{
+    if call.is(name::BIND) {
+        return judged(bind_call(words));
     }
+    if call.is(name::RECV) {
+        let slot = judged(only_slot(words))?;
+        return Ok(PortCall::Recv { slot });
+    }
+    if call.is(name::CONNECT) {
+        return judged(connect_call(words));
+    }
+    if call.is(name::PUSH) {
+        return push_call(alloc, words);
+    }
+    if call.is(name::SEND) {
+        return send_call(alloc, words);
+    }
+    if call.is(name::UNBIND) {
+        let slot = judged(only_slot(words))?;
+        return Ok(PortCall::Unbind { slot });
+    }
+    if call.is(name::STAT) {
+        let port = judged(only_port(words))?;
+        return Ok(PortCall::StatPort { port });
+    }
+    Err(Refusal::Fault(FaultKind::Syntax))
+}
+
+/// The number of a port alone.
+fn only_port(words: Words<'_>) -> Result<u32, FaultKind>
+    ensures { result ≡ Arguments.of_one ArgumentTypes.port_of words.entry }
+{
+    port_of(&one_word(words)?)
+}
+
+/// `bind SLOT PORT MODE`
+fn bind_call(words: Words<'_>) -> Result<PortCall, FaultKind>
+    ensures { result ≡ Calls.bind_call words.entry }
+{
+    let (slot, port, mode) = three_words(words)?;
+    let rest = both(port_of(&port), bind_mode_of(&mode));
+    let (slot, (port, mode)) = both(slot_of(&slot), rest)?;
+    Ok(PortCall::Bind { slot, port, mode })
+}
+
+/// `connect SLOT PORT MODE`
+fn connect_call(words: Words<'_>) -> Result<PortCall, FaultKind>
+    ensures { result ≡ Calls.connect_call words.entry }
+{
+    let (slot, port, mode) = three_words(words)?;
+    let rest = both(port_of(&port), connect_mode_of(&mode));
+    let (slot, (port, mode)) = both(slot_of(&slot), rest)?;
+    Ok(PortCall::Connect { slot, port, mode })
+}
+
+/// `push SLOT DATA`
+fn push_call(alloc: Global, words: Words<'_>) -> Result<PortCall, Refusal>
+    ensures { Gives result (Calls.push_call words.entry) }
+{
+    let (slot, datum) = judged(two_words(words))?;
+    let (slot, datum) = judged(both(slot_of(&slot), datum_of(datum)))?;
+    let piece = Piece::of(alloc, datum.as_bytes())?;
+    Ok(PortCall::Push { slot, piece })
+}
+
+/// `send PORT DATA`
+fn send_call(alloc: Global, words: Words<'_>) -> Result<PortCall, Refusal>
+    ensures { Gives result (Calls.send_call words.entry) }
+{
+    let (port, datum) = judged(two_words(words))?;
+    let (port, datum) = judged(both(port_of(&port), datum_of(datum)))?;
+    let piece = Piece::of(alloc, datum.as_bytes())?;
+    Ok(PortCall::Send { port, piece })
 }

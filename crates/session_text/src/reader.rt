@@ -10,13 +10,13 @@ ghost use Rattle.session_text.specs.Progress.{AreAbove, Becomes};
 ghost use Rattle.session_text.specs.Readers as part;
 ghost use Rattle.session_text.specs.Reading;
 
-use crate::run_lines::run_read;
+use crate::run_lines::run_of;
 use crate::running::Running;
 use crate::session::Session;
 use crate::setup::Setup;
 use crate::setup_lines::setup_read;
 use policy_text::PolicyReader;
-use session_forms::{SetupForm, is_end, run_form, setup_form};
+use session_forms::{SetupForm, is_end, setup_form};
 use std::alloc::Global;
 use text_lines::{FaultKind, Line, Lines, Refusal, TextFault, Words, line_words};
 
@@ -247,8 +247,6 @@ fn run_line_read<'a>(
     let Some(first) = words.next() else {
         return Ok(());
     };
-    match run_form(first, words) {
-        None => Err(Refusal::Fault(FaultKind::Syntax)),
-        Some(form) => run_read(alloc, number, form, running),
-    }
+    let run = run_of(alloc, running, &first, words)?;
+    Ok(running.add_line(number, run)?)
 }

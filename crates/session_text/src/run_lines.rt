@@ -1,135 +1,199 @@
-//! What a line that runs asks of the lines above it.
+//! What a line that runs asks, by its words and by the lines above it.
 
-ghost use Rattle.std.specs.Prelude.{◌≤◌};
-ghost use Rattle.session_forms.specs.ArgumentForms.{IsCallForm, IsRunForm};
+ghost use Rattle.std.specs.Prelude.{◌≡◌};
+ghost use Rattle.text_lines.specs.Refusals.{Gives};
+ghost use Rattle.session_text.specs.Calls;
 ghost use Rattle.session_text.specs.Grammar;
-ghost use Rattle.session_text.specs.Progress.{AreAbove, Becomes};
 
-use crate::calls::asked_call;
+use crate::calls::{client_of, file_call, port_call, process_call};
 use crate::running::Running;
 use crate::session::Run;
 use flask_sid::Word;
-use session_forms::{CallForm, Manager, RunForm, is_past_call};
+use session_forms::{
+    Manager, both, both_made, is_end, judged, manager_of, one_word, value_of, version_of,
+};
 use std::alloc::Global;
-use text_lines::{FaultKind, Refusal};
+use text_lines::{FaultKind, Refusal, Words};
 
-/// A line of this form, with its number.
-#[tactic(auto, unfolding(crate::specs::Grammar::run_read, session_forms::specs::ArgumentForms::IsRunForm))]
-pub(crate) fn run_read<'a>(
+/// What a line that runs asks, by its first word.
+#[tactic(auto, unfolding(crate::specs::Grammar::run_of))]
+pub(crate) fn run_of<'a>(
     alloc: Global,
-    line: u32,
-    form: RunForm<'a>,
-    running: &mut Running<'a>,
-) -> Result<(), Refusal>
-    requires form { IsRunForm form }
-    requires above { AreAbove line running.old.lines }
-    requires counted { line ≤ 100000 }
-    ensures { Becomes result running.new (Grammar.run_read line form.entry running.old) }
+    running: &Running<'a>,
+    first: &Word<'a>,
+    words: Words<'a>,
+) -> Result<Run, Refusal>
+    ensures { Gives result (Grammar.run_of running.now first.now words.entry) }
 {
-    match form {
-        RunForm::Call(name, call) => client_call_read(alloc, line, name, call, running),
-        RunForm::Begin(name, manager) => begin_read(line, name, manager, running),
-        RunForm::End(name, manager) => end_read(line, name, manager, running),
-        RunForm::Notify(version) => notify_read(line, version, running),
-        RunForm::Update(most) => update_read(line, most, running),
-        RunForm::Ack => Ok(running.add_line(line, Run::Ack)?),
-        RunForm::Force => Ok(running.add_line(line, Run::Force)?),
+    if first.is(b"admin") {
+        return judged(admin_run(words));
+    }
+    if first.is_name_form() {
+        client_run(alloc, running, first, words)
+    } else {
+        Err(Refusal::Fault(FaultKind::Syntax))
     }
 }
 
-/// A client's call.
-#[tactic(auto, unfolding(crate::specs::Grammar::client_call_read))]
-fn client_call_read<'a>(
+/// A line of the administrator.
+#[tactic(auto, unfolding(crate::specs::Grammar::admin_run))]
+fn admin_run(mut words: Words<'_>) -> Result<Run, FaultKind>
+    ensures { result ≡ Grammar.admin_run words.entry }
+{
+    let Some(what) = words.next() else {
+        return Err(FaultKind::Syntax);
+    };
+    if what.is(b"notify") {
+        let ver = version_of(&one_word(words)?)?;
+        return Ok(Run::Notify { ver });
+    }
+    if what.is(b"update") {
+        let k = value_of(&one_word(words)?)?;
+        return Ok(Run::Update { k });
+    }
+    if what.is(b"ack") {
+        return alone(words, Run::Ack);
+    }
+    if what.is(b"force") {
+        return alone(words, Run::Force);
+    }
+    Err(FaultKind::Syntax)
+}
+
+/// What stands alone in its line, with no word left.
+fn alone(words: Words<'_>, run: Run) -> Result<Run, FaultKind>
+    ensures { result ≡ Grammar.alone words.entry run }
+{
+    if is_end(words) {
+        Ok(run)
+    } else {
+        Err(FaultKind::Syntax)
+    }
+}
+
+/// A line of a client of that name: a manager, and what is asked of it.
+#[tactic(auto, unfolding(crate::specs::Grammar::client_run))]
+fn client_run<'a>(
     alloc: Global,
-    line: u32,
-    name: Word<'a>,
-    form: CallForm<'a>,
-    running: &mut Running<'a>,
-) -> Result<(), Refusal>
-    requires form { IsCallForm form }
-    requires above { AreAbove line running.old.lines }
-    requires counted { line ≤ 100000 }
-    ensures { Becomes result running.new (Grammar.client_call_read line name.entry form.entry running.old) }
+    running: &Running<'a>,
+    name: &Word<'a>,
+    mut words: Words<'a>,
+) -> Result<Run, Refusal>
+    ensures { Gives result (Grammar.client_run running.now name.now words.entry) }
 {
-    if name.is_long() || is_past_call(&form) {
-        return Err(Refusal::Fault(FaultKind::Limit));
-    }
-    let Some(client) = running.number(&name) else {
-        return Err(Refusal::Fault(FaultKind::Unknown));
+    let Some(manager) = words.next() else {
+        return Err(Refusal::Fault(FaultKind::Syntax));
     };
-    let run = asked_call(alloc, running, client, &form)?;
-    Ok(running.add_line(line, run)?)
+    match manager_of(&manager) {
+        None => Err(Refusal::Fault(FaultKind::Syntax)),
+        Some(manager) => asked_run(alloc, running, name, manager, words),
+    }
 }
 
-/// A `begin` line.
-#[tactic(auto, unfolding(crate::specs::Grammar::begin_read))]
-fn begin_read<'a>(
-    line: u32,
-    name: Word<'a>,
+/// What a client of that name asks of a manager: a pass, to give it back, or a call.
+#[tactic(auto, unfolding(crate::specs::Grammar::asked_run, crate::specs::Grammar::call_run))]
+fn asked_run<'a>(
+    alloc: Global,
+    running: &Running<'a>,
+    name: &Word<'a>,
     manager: Manager,
-    running: &mut Running<'a>,
-) -> Result<(), Refusal>
-    requires above { AreAbove line running.old.lines }
-    requires counted { line ≤ 100000 }
-    ensures { Becomes result running.new (Grammar.begin_read line name.entry manager running.old) }
+    mut words: Words<'a>,
+) -> Result<Run, Refusal>
+    ensures { Gives result (Grammar.asked_run running.now name.now manager words.entry) }
 {
-    if running.holds(manager, &name) {
-        return Err(Refusal::Fault(FaultKind::Order));
-    }
-    if name.is_long() {
-        return Err(Refusal::Fault(FaultKind::Limit));
-    }
-    let Some(client) = running.number(&name) else {
-        return Err(Refusal::Fault(FaultKind::Unknown));
+    let Some(call) = words.next() else {
+        return Err(Refusal::Fault(FaultKind::Syntax));
     };
-    Ok(running.add_line(line, Run::Begin { client, manager })?)
+    if call.is(b"begin") {
+        return judged(begin_run(running, name, manager, words));
+    }
+    if call.is(b"end") {
+        return judged(end_run(running, name, manager, words));
+    }
+    let client = client_of(running, name);
+    match manager {
+        Manager::File => file_run(alloc, running, client, &call, words),
+        Manager::Process => judged(process_run(running, client, &call, words)),
+        Manager::Port => port_run(alloc, client, &call, words),
+    }
 }
 
-/// An `end` line.
-#[tactic(auto, unfolding(crate::specs::Grammar::end_read))]
-fn end_read<'a>(
-    line: u32,
-    name: Word<'a>,
+/// A client takes a pass of a manager. `Order` where it holds one.
+#[tactic(auto, unfolding(crate::specs::Grammar::begin_run))]
+fn begin_run<'a>(
+    running: &Running<'a>,
+    name: &Word<'a>,
     manager: Manager,
-    running: &mut Running<'a>,
-) -> Result<(), Refusal>
-    requires above { AreAbove line running.old.lines }
-    requires counted { line ≤ 100000 }
-    ensures { Becomes result running.new (Grammar.end_read line name.entry manager running.old) }
+    words: Words<'a>,
+) -> Result<Run, FaultKind>
+    ensures { result ≡ Grammar.begin_run running.now name.now manager words.entry }
 {
-    if !running.holds(manager, &name) {
-        return Err(Refusal::Fault(FaultKind::Order));
+    if !is_end(words) {
+        return Err(FaultKind::Syntax);
     }
-    let Some(client) = running.number(&name) else {
-        return Err(Refusal::Fault(FaultKind::Unknown));
-    };
-    Ok(running.add_line(line, Run::End { client, manager })?)
+    if running.holds(manager, name) {
+        return Err(FaultKind::Order);
+    }
+    let client = client_of(running, name)?;
+    Ok(Run::Begin { client, manager })
 }
 
-/// A `notify` line.
-#[tactic(auto, unfolding(crate::specs::Grammar::notify_read))]
-fn notify_read(line: u32, version: u64, running: &mut Running<'_>) -> Result<(), Refusal>
-    requires above { AreAbove line running.old.lines }
-    requires counted { line ≤ 100000 }
-    ensures { Becomes result running.new (Grammar.notify_read line version running.old) }
+/// A client gives the pass of a manager back. `Order` where it holds none.
+#[tactic(auto, unfolding(crate::specs::Grammar::end_run))]
+fn end_run<'a>(
+    running: &Running<'a>,
+    name: &Word<'a>,
+    manager: Manager,
+    words: Words<'a>,
+) -> Result<Run, FaultKind>
+    ensures { result ≡ Grammar.end_run running.now name.now manager words.entry }
 {
-    if version > 255 {
-        return Err(Refusal::Fault(FaultKind::Limit));
+    if !is_end(words) {
+        return Err(FaultKind::Syntax);
     }
-    let ver = version as u8;
-    Ok(running.add_line(line, Run::Notify { ver })?)
+    if !running.holds(manager, name) {
+        return Err(FaultKind::Order);
+    }
+    let client = client_of(running, name)?;
+    Ok(Run::End { client, manager })
 }
 
-/// An `update` line.
-#[tactic(auto, unfolding(crate::specs::Grammar::update_read))]
-fn update_read(line: u32, most: u64, running: &mut Running<'_>) -> Result<(), Refusal>
-    requires above { AreAbove line running.old.lines }
-    requires counted { line ≤ 100000 }
-    ensures { Becomes result running.new (Grammar.update_read line most running.old) }
+/// A call of the file manager, with what is known of its client.
+fn file_run<'a>(
+    alloc: Global,
+    running: &Running<'a>,
+    client: Result<u8, FaultKind>,
+    call: &Word<'a>,
+    words: Words<'a>,
+) -> Result<Run, Refusal>
+    ensures { Gives result (Grammar.file_run client (Calls.file_call running.now.policy.contexts running.now.clients call.now words.entry)) }
 {
-    if most > 4_294_967_295 {
-        return Err(Refusal::Fault(FaultKind::Limit));
-    }
-    let k = most as u32;
-    Ok(running.add_line(line, Run::Update { k })?)
+    let (client, call) = both_made(client, file_call(alloc, running, call, words))?;
+    Ok(Run::File { client, call })
+}
+
+/// A call of the process manager, with what is known of its client.
+fn process_run<'a>(
+    running: &Running<'a>,
+    client: Result<u8, FaultKind>,
+    call: &Word<'a>,
+    words: Words<'a>,
+) -> Result<Run, FaultKind>
+    ensures { result ≡ Grammar.process_run client (Calls.process_call running.now.policy.contexts call.now words.entry) }
+{
+    let (client, call) = both(client, process_call(running, call, words))?;
+    Ok(Run::Process { client, call })
+}
+
+/// A call of the port manager, with what is known of its client.
+fn port_run(
+    alloc: Global,
+    client: Result<u8, FaultKind>,
+    call: &Word<'_>,
+    words: Words<'_>,
+) -> Result<Run, Refusal>
+    ensures { Gives result (Grammar.port_run client (Calls.port_call call.now words.entry)) }
+{
+    let (client, call) = both_made(client, port_call(alloc, call, words))?;
+    Ok(Run::Port { client, call })
 }
