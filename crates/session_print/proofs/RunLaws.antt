@@ -3,7 +3,7 @@ use Rattle.std.proofs.Common.{◌≡◌, ◌∙◌, ℕ, Bool, true, false, not,
 use Rattle.std.specs.Prelude.{codes}
 use Rattle.std.specs.List.{list_all}
 use Rattle.std.specs.Str.{bytes_eq}
-use Rattle.std.proofs.lemmas.Bool.{and_from, le-ltb, not-true}
+use Rattle.std.proofs.lemmas.Bool.{and_from, not-true}
 use Rattle.flask_sid.specs.Names.{is_name_form}
 use Rattle.text_lines.specs.Lines.{is_comment}
 use Rattle.text_lines.specs.declared.fault.FaultKind.{FaultKind}
