@@ -1,9 +1,8 @@
 -- What the words of a session line give, before their limits are judged.
-use Rattle.std.specs.Prelude.{◌≡◌, ℕ, Bool, true, false, ◌&&◌, List, IfSome}
+use Rattle.std.specs.Prelude.{◌≡◌, ℕ, Bool, true, ◌&&◌, List, IfSome}
 use Rattle.std.specs.List.{list_all}
 use Rattle.flask_sid.specs.Names.{is_name_form}
 use Rattle.text_lines.specs.Lines.{is_filled, is_word_byte}
-use Rattle.session_forms.specs.Arguments.{is_root}
 use Rattle.session_forms.specs.PathForms.{is_part_form}
 use Rattle.session_forms.specs.declared.setup_forms.SetupForm.{SetupForm}
 use Rattle.session_forms.specs.declared.setup_forms.SetupForm.TheVariants as setup
@@ -18,10 +17,6 @@ IsWord word = is_word word ≡ true
 -- a path: its parts have their form, and may be too many or too long
 abbrev pub IsPathForm : List (List ℕ) → Type 0
 IsPathForm path = list_all is_part_form path ≡ true
-
--- a path below the root
-abbrev pub IsEntryForm : List (List ℕ) → Type 0
-IsEntryForm path = (is_root path ≡ false) × IsPathForm path
 
 -- any session line: paths and names have their form, and the bytes of a file are a word
 unfoldable pub IsSetupForm : SetupForm → Type 0

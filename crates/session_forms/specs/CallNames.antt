@@ -1,4 +1,4 @@
--- The names of the calls, in the order of the table of calls. They are read and printed by these.
+-- The names of the calls, by which they are read and printed: each manager's in the order of the table of calls, and `stat`, which each has.
 use Rattle.std.specs.Prelude.{ℕ, List, codes}
 
 -- the calls of the file manager
@@ -67,11 +67,11 @@ detach = codes "detach"
 abbrev pub bind : List ℕ
 bind = codes "bind"
 
-abbrev pub recv : List ℕ
-recv = codes "recv"
-
 abbrev pub connect : List ℕ
 connect = codes "connect"
+
+abbrev pub recv : List ℕ
+recv = codes "recv"
 
 abbrev pub push : List ℕ
 push = codes "push"

@@ -1,9 +1,9 @@
--- Which fault of a line is told where several of its words are faulty: the kinds of fault have an order.
+-- Which fault of a line is told where several of its words are faulty: that of the kind which is asked first.
 use Rattle.std.specs.Prelude.{ℕ, nat_lt, Result, Ok, Err, if◌then◌else◌}
 use Rattle.text_lines.specs.declared.fault.FaultKind.{FaultKind}
 use Rattle.text_lines.specs.declared.fault.FaultKind.TheVariants.{Syntax, Order, Limit, Unknown, Undeclared, Twice, Ended}
 
--- the place of a kind in the order in which the kinds of one line are asked
+-- the place of a kind in the order in which the kinds of a line's words are asked
 abbrev pub kind_place : FaultKind → ℕ
 kind_place Syntax = 0
 kind_place Order = 1

@@ -14,6 +14,6 @@ abbrev pub is_long_data : Option (List ℕ) → Bool
 is_long_data None = false
 is_long_data (Some bytes) = is_long_word bytes
 
--- not from 1 to 65,535, which the numbers of processes and of ports are
+-- past the numbers of ports, which are 1 to 65,535
 abbrev pub is_past_place : ℕ → Bool
 is_past_place number = number == 0 || nat_lt 65535 number

@@ -1,4 +1,4 @@
-//! The names of the calls, in the order of the table of calls. They are read and printed by these.
+//! The names of the calls, by which they are read and printed: each manager's in the order of the table of calls, and `stat`, which each has.
 
 /// Makes a directory.
 pub const MKDIR: &[u8] = b"mkdir";
@@ -20,12 +20,12 @@ pub const UNLINK: &[u8] = b"unlink";
 pub const LIST: &[u8] = b"list";
 /// Gives a file or a directory another context.
 pub const RELABEL: &[u8] = b"relabel";
-/// Gives a slot to another client.
+/// Lets a slot of another client hold what a slot holds.
 pub const GIVE: &[u8] = b"give";
 
 /// Makes a process.
 pub const FORK: &[u8] = b"fork";
-/// Gives a process another context.
+/// Gives a process the label that the policy has for a program of that context.
 pub const EXEC: &[u8] = b"exec";
 /// Sends a process a signal.
 pub const SIGNAL: &[u8] = b"signal";
@@ -44,10 +44,10 @@ pub const DETACH: &[u8] = b"detach";
 
 /// Binds a port in a slot.
 pub const BIND: &[u8] = b"bind";
-/// Takes what was sent to the port in a slot.
-pub const RECV: &[u8] = b"recv";
 /// Connects a slot to a port.
 pub const CONNECT: &[u8] = b"connect";
+/// Takes what was sent to the port in a slot.
+pub const RECV: &[u8] = b"recv";
 /// Sends to the port that a slot is connected to.
 pub const PUSH: &[u8] = b"push";
 /// Sends to a port.

@@ -8,7 +8,7 @@ use flask_sid::Word;
 /// The greatest number of bytes of a data word.
 const DATA_LIMIT: usize = 1_024;
 
-/// Whether this is no number of a process or a port.
+/// Whether this is no number of a port.
 pub fn is_past_place(number: u64) -> bool
     ensures { result ≡ Ranges.is_past_place number }
 {

@@ -91,6 +91,11 @@ text_length session =
     let below : List (List ℕ) = spaced (codes "session" ∷ []) ∷ (map spaced (setup_lines session) ++ runs) in
     omega (arith, length-append (map spaced (policy_lines session.policy)) below, length-append (map spaced (setup_lines session)) runs, length-map (policy_lines session.policy) spaced, length-map (setup_lines session) spaced, length-map (run_lines session) spaced)
 
+-- how many lines the text of a session has
+pub printed_count : (session : SessionParts) → IsWholePolicy session.policy → IsSession session
+    → length (lines_of (printed session)) ≡ length (policy_lines session.policy) + 1 + length (setup_lines session) + 1 + length (run_lines session)
+printed_count session kept is = ap length (lines_printed session kept is) ∙ text_length session
+
 -- a session that was printed in no more lines than a text may have is read as the same session again
 pub printed_again : (session : SessionParts) → IsWholePolicy session.policy → IsSession session → length (lines_of (printed session)) ≤ line_limit → IsTextOf session (printed session)
 unfolding session_of

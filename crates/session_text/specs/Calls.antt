@@ -32,7 +32,7 @@ context_of contexts word = found_or Syntax (context_form word) >>= λ context. d
 unfoldable pub client_of : List ClientLine → List ℕ → Result ℕ FaultKind
 client_of clients word = if is_long word then Err Limit else found_or Unknown (client_number clients word)
 
--- a client that any word names
+-- the receiver of a slot: a client, where the word has the form of a name
 unfoldable pub receiver_of : List ClientLine → List ℕ → Result ℕ FaultKind
 receiver_of clients word = if is_name_form word then client_of clients word else Err Syntax
 
@@ -89,7 +89,7 @@ file_call contexts clients call words =
 abbrev pub exec_call : List ContextLine → List (List ℕ) → Result ProcessCall FaultKind
 exec_call contexts words = of_two pid_of (context_of contexts) words >>= λ said. Ok (process.Exec said.0 said.1)
 
--- `signal PID SIGNAL`
+-- `signal PID NUMBER`
 abbrev pub signal_call : List (List ℕ) → Result ProcessCall FaultKind
 signal_call words = of_two pid_of signal_of words >>= λ said. Ok (process.Signal said.0 said.1)
 

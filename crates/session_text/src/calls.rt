@@ -51,7 +51,7 @@ pub(crate) fn client_of<'a>(running: &Running<'a>, word: &Word<'a>) -> Result<u8
     }
 }
 
-/// A client that any word names. `Syntax` where the word is no name.
+/// The receiver of a slot. `Syntax` where the word has not the form of a name.
 #[tactic(auto, unfolding(crate::specs::Calls::receiver_of))]
 fn receiver_of<'a>(running: &Running<'a>, word: &Word<'a>) -> Result<u8, FaultKind>
     ensures { result ≡ Calls.receiver_of running.now.clients word.now }
@@ -300,7 +300,7 @@ fn exec_call<'a>(running: &Running<'a>, words: Words<'a>) -> Result<ProcessCall,
     Ok(ProcessCall::Exec { pid, sid })
 }
 
-/// `signal PID SIGNAL`
+/// `signal PID NUMBER`
 fn signal_call(words: Words<'_>) -> Result<ProcessCall, FaultKind>
     ensures { result ≡ Calls.signal_call words.entry }
 {
