@@ -1,12 +1,12 @@
 -- The session that is made of three numbers is what the reader makes of its text.
-use Rattle.std.proofs.Common.{◌≡◌, ◌∙◌, ◌+◌, ℕ, true, zero, suc, List, [], ◌∷◌, length, map, Option, Some, None, Result, Ok, Err, refl, ap, arith}
+use Rattle.std.proofs.Common.{◌≡◌, ◌∙◌, ◌+◌, ℕ, true, zero, suc, List, [], ◌∷◌, length, Option, Some, None, Result, Ok, Err, refl, ap, arith}
 use Rattle.std.specs.Prelude.{IfOk}
 use Rattle.std.proofs.lemmas.List.{length-map}
 use Rattle.command_line.specs.Commands.{IsWithin}
 use Rattle.text_lines.specs.Lines.{lines_of}
 use Rattle.text_lines.specs.ResultSteps.{◌>>=◌, at_line, lines_fold}
 use Rattle.text_lines.specs.declared.fault.FaultKind.{FaultKind}
-use Rattle.policy_model.specs.Kept.{Grown, GrownAbove, IsWholePolicy}
+use Rattle.policy_model.specs.Kept.{GrownAbove, IsWholePolicy}
 use Rattle.policy_model.specs.declared.policy.PolicyParts.{PolicyParts}
 use Rattle.policy_text.specs.Grammar.{line_read, is_whole}
 use Rattle.policy_text.proofs.KeptLemmas.{line_keeps, whole_kept}

@@ -1,6 +1,6 @@
 -- Arguments within their limits, whose words have their form, and what is found among the lines above.
 use Rattle.std.proofs.Common.{◌≡◌, ◌<◌, ◌+◌, ℕ, Bool, true, false, cond, List, [], ◌∷◌, length, All, Option, None, Some, refl, arith}
-use Rattle.std.specs.Prelude.{IfSome, if◌then◌else◌, option_and_then, ◌==◌, ◌||◌, not, nat_lt, ◌≢◌, codes}
+use Rattle.std.specs.Prelude.{IfSome, if◌then◌else◌, option_and_then, ◌||◌, not, nat_lt, ◌≢◌, codes}
 use Rattle.std.specs.List.{list_all, list_any, position, position_or_len}
 use Rattle.std.specs.Str.{bytes_eq}
 use Rattle.std.proofs.lemmas.Bool.Decides.{nat_tests}

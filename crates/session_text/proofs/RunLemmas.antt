@@ -1,11 +1,10 @@
 -- A line that was read is one that a session may have below the lines above it.
-use Rattle.std.proofs.Common.{◌≡◌, ◌<◌, ◌∙◌, ℕ, true, false, List, [], ◌∷◌, length, Result, Ok, Err, sym, arith}
+use Rattle.std.proofs.Common.{◌≡◌, ◌<◌, ◌∙◌, ℕ, List, [], ◌∷◌, length, Ok, Err, sym, arith}
 use Rattle.std.specs.Prelude.{IfOk, not, codes}
 use Rattle.std.specs.Str.{bytes_eq}
 use Rattle.std.proofs.lemmas.Bool.{not-false}
 use Rattle.flask_sid.specs.Names.{is_name_form}
 use Rattle.text_lines.specs.Lines.{line_words}
-use Rattle.text_lines.specs.declared.fault.FaultKind.{FaultKind}
 use Rattle.text_lines.specs.declared.fault.FaultKind.TheVariants.{Syntax, Order}
 use Rattle.text_lines.specs.ResultSteps.{found_or}
 use Rattle.policy_text.proofs.StepLemmas.{unless, after}

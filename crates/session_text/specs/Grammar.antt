@@ -8,7 +8,6 @@ use Rattle.text_lines.specs.declared.fault.FaultKind.{FaultKind}
 use Rattle.text_lines.specs.declared.fault.FaultKind.TheVariants.{Syntax, Order, Limit, Unknown, Undeclared, Twice}
 use Rattle.text_lines.specs.Lines.{line_words}
 use Rattle.text_lines.specs.ResultSteps.{◌>>=◌, found_or}
-use Rattle.policy_model.specs.declared.policy.ContextLine.{ContextLine}
 use Rattle.file_calls.specs.Openings.{has_node, is_parent_there}
 use Rattle.file_calls.specs.declared.call.FileCall.{FileCall}
 use Rattle.file_calls.specs.declared.opening.Node.{Node}
