@@ -3,3 +3,4 @@ pub mod LineLaws
 pub mod NumeralLaws
 pub mod NameLaws
 pub mod LeadLaws
+pub mod FrontLaws

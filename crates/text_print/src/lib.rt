@@ -4,9 +4,10 @@
 //! laws brings the words back.
 #![tactic(auto)]
 
-ghost use Rattle.std.specs.Prelude.{◌≡◌, ◌++◌, OnOk, decimal};
+ghost use Rattle.std.specs.Prelude.{◌≡◌, ◌++◌, OnOk, OnErr, decimal};
 ghost use Rattle.flask_sid.specs.Contexts.{context_text};
 ghost use Rattle.text_print.specs.Printed;
+ghost use Rattle.text_print.specs.Fronts.{IsFront};
 
 use flask_sid::{Context, Memory, Sid, SidTable, Text};
 use text_lines::put_number;
@@ -14,7 +15,8 @@ use text_lines::put_number;
 /// Puts a word behind a space.
 #[inline(always)]
 pub fn put_word(out: &mut Text, word: &[u8]) -> Result<(), Memory>
-    ensures { OnOk result (out.new ≡ out.old ++ Printed.behind word.now) }
+    ensures ok { OnOk result (out.new ≡ out.old ++ Printed.behind word.now) }
+    ensures err { OnErr result (IsFront out.old out.new) }
 {
     out.push(b' ')?;
     out.extend(word)
@@ -23,7 +25,8 @@ pub fn put_word(out: &mut Text, word: &[u8]) -> Result<(), Memory>
 /// Puts a number behind a space, without leading zeros.
 #[inline(always)]
 pub fn put_numeral(out: &mut Text, number: u64) -> Result<(), Memory>
-    ensures { OnOk result (out.new ≡ out.old ++ Printed.behind (decimal number)) }
+    ensures ok { OnOk result (out.new ≡ out.old ++ Printed.behind (decimal number)) }
+    ensures err { OnErr result (IsFront out.old out.new) }
 {
     out.push(b' ')?;
     put_number(out, number)
@@ -33,7 +36,8 @@ pub fn put_numeral(out: &mut Text, number: u64) -> Result<(), Memory>
 #[tactic(auto, unfolding(flask_sid::specs::Contexts::context_text))]
 #[inline(always)]
 pub fn put_context(out: &mut Text, context: &Context) -> Result<(), Memory>
-    ensures { OnOk result (out.new ≡ out.old ++ Printed.behind (context_text context.now)) }
+    ensures ok { OnOk result (out.new ≡ out.old ++ Printed.behind (context_text context.now)) }
+    ensures err { OnErr result (IsFront out.old out.new) }
 {
     out.push(b' ')?;
     out.extend(context.user.as_bytes())?;
@@ -47,7 +51,8 @@ pub fn put_context(out: &mut Text, context: &Context) -> Result<(), Memory>
 #[tactic(auto, unfolding(flask_sid::specs::Contexts::context_text))]
 #[inline(always)]
 pub fn put_label(out: &mut Text, sids: &SidTable, sid: Sid) -> Result<(), Memory>
-    ensures { OnOk result (out.new ≡ out.old ++ Printed.behind (context_text (Printed.context_with sids.now sid))) }
+    ensures ok { OnOk result (out.new ≡ out.old ++ Printed.behind (context_text (Printed.context_with sids.now sid))) }
+    ensures err { OnErr result (IsFront out.old out.new) }
 {
     match sids.context(sid) {
         None => put_word(out, b"::"),
