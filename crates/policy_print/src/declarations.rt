@@ -1,8 +1,9 @@
 //! Puts the lines of declarations.
 
-ghost use Rattle.std.specs.Prelude.{◌≡◌, ◌++◌, OnOk};
+ghost use Rattle.std.specs.Prelude.{◌≡◌, ◌++◌, OnOk, OnErr};
 ghost use Rattle.std.specs.List.{flat_map};
 ghost use Rattle.text_print.specs.Printed.{behind, ended};
+ghost use Rattle.text_print.specs.Fronts.{IsFront};
 ghost use Rattle.policy_print.specs.Printed;
 
 use flask_sid::{Memory, Name, Text};
@@ -11,7 +12,8 @@ use text_print::{put_context, put_word};
 
 /// Puts a `type` line for each of these types.
 pub(crate) fn put_kinds(out: &mut Text, kinds: &[KindLine]) -> Result<(), Memory>
-    ensures { OnOk result (out.new ≡ out.old ++ Printed.texts_of Printed.kind_words kinds.now) }
+    ensures ok { OnOk result (out.new ≡ out.old ++ Printed.texts_of Printed.kind_words kinds.now) }
+    ensures err { OnErr result (IsFront out.old out.new) }
 {
     'kinds: for kind in kinds {
         put_kind(out, kind)?;
@@ -20,7 +22,8 @@ pub(crate) fn put_kinds(out: &mut Text, kinds: &[KindLine]) -> Result<(), Memory
 }
 
 fn put_kind(out: &mut Text, kind: &KindLine) -> Result<(), Memory>
-    ensures { OnOk result (out.new ≡ out.old ++ ended (Printed.kind_words kind.now)) }
+    ensures ok { OnOk result (out.new ≡ out.old ++ ended (Printed.kind_words kind.now)) }
+    ensures err { OnErr result (IsFront out.old out.new) }
 {
     out.extend(b"type")?;
     put_word(out, kind.name.as_bytes())?;
@@ -29,7 +32,8 @@ fn put_kind(out: &mut Text, kind: &KindLine) -> Result<(), Memory>
 
 /// Puts a `context` line for each of these contexts.
 pub(crate) fn put_contexts(out: &mut Text, contexts: &[ContextLine]) -> Result<(), Memory>
-    ensures { OnOk result (out.new ≡ out.old ++ Printed.texts_of Printed.context_words contexts.now) }
+    ensures ok { OnOk result (out.new ≡ out.old ++ Printed.texts_of Printed.context_words contexts.now) }
+    ensures err { OnErr result (IsFront out.old out.new) }
 {
     'contexts: for line in contexts {
         put_context_line(out, line)?;
@@ -38,7 +42,8 @@ pub(crate) fn put_contexts(out: &mut Text, contexts: &[ContextLine]) -> Result<(
 }
 
 fn put_context_line(out: &mut Text, line: &ContextLine) -> Result<(), Memory>
-    ensures { OnOk result (out.new ≡ out.old ++ ended (Printed.context_words line.now)) }
+    ensures ok { OnOk result (out.new ≡ out.old ++ ended (Printed.context_words line.now)) }
+    ensures err { OnErr result (IsFront out.old out.new) }
 {
     out.extend(b"context")?;
     put_context(out, &line.context)?;
@@ -47,7 +52,8 @@ fn put_context_line(out: &mut Text, line: &ContextLine) -> Result<(), Memory>
 
 /// Puts an `attribute` line for each of these attributes.
 pub(crate) fn put_attributes(out: &mut Text, attributes: &[AttributeLine]) -> Result<(), Memory>
-    ensures { OnOk result (out.new ≡ out.old ++ Printed.texts_of Printed.attribute_words attributes.now) }
+    ensures ok { OnOk result (out.new ≡ out.old ++ Printed.texts_of Printed.attribute_words attributes.now) }
+    ensures err { OnErr result (IsFront out.old out.new) }
 {
     'attributes: for line in attributes {
         put_attribute(out, line)?;
@@ -56,7 +62,8 @@ pub(crate) fn put_attributes(out: &mut Text, attributes: &[AttributeLine]) -> Re
 }
 
 fn put_attribute(out: &mut Text, line: &AttributeLine) -> Result<(), Memory>
-    ensures { OnOk result (out.new ≡ out.old ++ ended (Printed.attribute_words line.now)) }
+    ensures ok { OnOk result (out.new ≡ out.old ++ ended (Printed.attribute_words line.now)) }
+    ensures err { OnErr result (IsFront out.old out.new) }
 {
     out.extend(b"attribute")?;
     put_word(out, line.name.as_bytes())?;
@@ -65,7 +72,8 @@ fn put_attribute(out: &mut Text, line: &AttributeLine) -> Result<(), Memory>
 }
 
 fn put_names(out: &mut Text, names: &[Name]) -> Result<(), Memory>
-    ensures { OnOk result (out.new ≡ out.old ++ flat_map behind names.now) }
+    ensures ok { OnOk result (out.new ≡ out.old ++ flat_map behind names.now) }
+    ensures err { OnErr result (IsFront out.old out.new) }
 {
     'names: for name in names {
         put_word(out, name.as_bytes())?;

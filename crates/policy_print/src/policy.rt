@@ -1,9 +1,10 @@
 //! A policy printed as a text, line by line in the order in which the reader wants them.
 
-ghost use Rattle.std.specs.Prelude.{◌≡◌, ◌++◌, ◌≤◌, OnOk, IfOk, length};
+ghost use Rattle.std.specs.Prelude.{◌++◌, ◌≡◌, ◌≤◌, IfOk, length, OnOk, OnErr};
 ghost use Rattle.text_lines.specs.Lines.{lines_of, line_limit};
 ghost use Rattle.policy_print.specs.Printed;
 ghost use Rattle.policy_print.specs.Same.{IsTextOf};
+ghost use Rattle.text_print.specs.Fronts.{IsFront};
 
 use crate::declarations::{put_attributes, put_contexts, put_kinds};
 use crate::rules::{put_patterns, put_versions};
@@ -24,9 +25,9 @@ pub fn print(alloc: Global, policy: &PolicyText) -> Result<Piece, Memory>
 }
 
 /// Puts the text of a policy.
-#[tactic(auto, unfolding(crate::specs::Printed::printed, crate::specs::Printed::policy_lines))]
 pub fn put_policy(out: &mut Text, policy: &PolicyParts) -> Result<(), Memory>
-    ensures { OnOk result (out.new ≡ out.old ++ Printed.printed policy.now) }
+    ensures ok { OnOk result (out.new ≡ out.old ++ Printed.printed policy.now) }
+    ensures err { OnErr result (IsFront out.old out.new) }
 {
     out.extend(b"policy 1\n")?;
     put_kinds(out, policy.kinds.as_slice())?;

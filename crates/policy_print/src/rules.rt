@@ -1,9 +1,10 @@
 //! Puts the lines on permissions, and the versions with their rule lines.
 
-ghost use Rattle.std.specs.Prelude.{◌≡◌, ◌++◌, [], ◌∷◌, OnOk};
+ghost use Rattle.std.specs.Prelude.{◌≡◌, ◌++◌, [], ◌∷◌, OnOk, OnErr};
 ghost use Rattle.std.specs.List.{flat_map};
 ghost use Rattle.access_vectors.specs.Table.{class_word};
 ghost use Rattle.text_print.specs.Printed.{behind, ended, text_of};
+ghost use Rattle.text_print.specs.Fronts.{IsFront};
 ghost use Rattle.policy_print.specs.Printed;
 
 use access_vectors::{Class, Perm, Vector, class_name, perm_name};
@@ -12,7 +13,8 @@ use policy_model::{Pattern, RuleLine, Verdict, Version, Who, WhoOf};
 use text_print::put_word;
 
 fn put_who(out: &mut Text, who: &Who) -> Result<(), Memory>
-    ensures { OnOk result (out.new ≡ out.old ++ behind (Printed.who_word who.now)) }
+    ensures ok { OnOk result (out.new ≡ out.old ++ behind (Printed.who_word who.now)) }
+    ensures err { OnErr result (IsFront out.old out.new) }
 {
     match who {
         WhoOf::Named(name) => put_word(out, name.as_bytes()),
@@ -23,8 +25,9 @@ fn put_who(out: &mut Text, who: &Who) -> Result<(), Memory>
 
 // Whom a line speaks of, and of which class.
 fn put_subjects(out: &mut Text, source: &Who, target: &Who, class: Class) -> Result<(), Memory>
-    ensures { OnOk result (out.new ≡ out.old ++ flat_map behind
+    ensures ok { OnOk result (out.new ≡ out.old ++ flat_map behind
         (Printed.who_word source.now ∷ Printed.who_word target.now ∷ class_word class ∷ [])) }
+    ensures err { OnErr result (IsFront out.old out.new) }
 {
     put_who(out, source)?;
     put_who(out, target)?;
@@ -34,7 +37,8 @@ fn put_subjects(out: &mut Text, source: &Who, target: &Who, class: Class) -> Res
 /// Puts the names of the permissions that a vector of a class has, each behind a space.
 #[tactic(auto, unfolding(crate::specs::Printed::held_names))]
 pub fn put_perms(out: &mut Text, class: Class, perms: Vector) -> Result<(), Memory>
-    ensures { OnOk result (out.new ≡ out.old ++ flat_map behind (Printed.held_names class perms)) }
+    ensures ok { OnOk result (out.new ≡ out.old ++ flat_map behind (Printed.held_names class perms)) }
+    ensures err { OnErr result (IsFront out.old out.new) }
 {
     'indexes: for index in 0..class.perm_count() {
         if perms.has(index) {
@@ -47,7 +51,8 @@ pub fn put_perms(out: &mut Text, class: Class, perms: Vector) -> Result<(), Memo
 }
 
 fn put_pattern(out: &mut Text, first: &[u8], pattern: &Pattern) -> Result<(), Memory>
-    ensures { OnOk result (out.new ≡ out.old ++ ended (Printed.pattern_words first.now pattern.now)) }
+    ensures ok { OnOk result (out.new ≡ out.old ++ ended (Printed.pattern_words first.now pattern.now)) }
+    ensures err { OnErr result (IsFront out.old out.new) }
 {
     out.extend(first)?;
     put_subjects(out, &pattern.source, &pattern.target, pattern.class)?;
@@ -57,7 +62,8 @@ fn put_pattern(out: &mut Text, first: &[u8], pattern: &Pattern) -> Result<(), Me
 
 /// Puts a line with this first word for each of these lines on permissions.
 pub(crate) fn put_patterns(out: &mut Text, first: &[u8], patterns: &[Pattern]) -> Result<(), Memory>
-    ensures { OnOk result (out.new ≡ out.old ++ Printed.texts_of (Printed.pattern_words first.now) patterns.now) }
+    ensures ok { OnOk result (out.new ≡ out.old ++ Printed.texts_of (Printed.pattern_words first.now) patterns.now) }
+    ensures err { OnErr result (IsFront out.old out.new) }
 {
     'patterns: for pattern in patterns {
         put_pattern(out, first, pattern)?;
@@ -66,7 +72,8 @@ pub(crate) fn put_patterns(out: &mut Text, first: &[u8], patterns: &[Pattern]) -
 }
 
 fn put_verdict_word(out: &mut Text, verdict: &Verdict) -> Result<(), Memory>
-    ensures { OnOk result (out.new ≡ out.old ++ Printed.verdict_word verdict.now) }
+    ensures ok { OnOk result (out.new ≡ out.old ++ Printed.verdict_word verdict.now) }
+    ensures err { OnErr result (IsFront out.old out.new) }
 {
     match verdict {
         Verdict::Allow(_) => out.extend(b"allow"),
@@ -77,7 +84,8 @@ fn put_verdict_word(out: &mut Text, verdict: &Verdict) -> Result<(), Memory>
 }
 
 fn put_verdict(out: &mut Text, class: Class, verdict: &Verdict) -> Result<(), Memory>
-    ensures { OnOk result (out.new ≡ out.old ++ flat_map behind (Printed.verdict_words class verdict.now)) }
+    ensures ok { OnOk result (out.new ≡ out.old ++ flat_map behind (Printed.verdict_words class verdict.now)) }
+    ensures err { OnErr result (IsFront out.old out.new) }
 {
     match verdict {
         Verdict::Allow(perms) | Verdict::Withhold(perms) => put_perms(out, class, *perms),
@@ -86,7 +94,8 @@ fn put_verdict(out: &mut Text, class: Class, verdict: &Verdict) -> Result<(), Me
 }
 
 fn put_rule(out: &mut Text, rule: &RuleLine) -> Result<(), Memory>
-    ensures { OnOk result (out.new ≡ out.old ++ ended (Printed.rule_words rule.now)) }
+    ensures ok { OnOk result (out.new ≡ out.old ++ ended (Printed.rule_words rule.now)) }
+    ensures err { OnErr result (IsFront out.old out.new) }
 {
     put_verdict_word(out, &rule.verdict)?;
     put_subjects(out, &rule.source, &rule.target, rule.class)?;
@@ -95,7 +104,8 @@ fn put_rule(out: &mut Text, rule: &RuleLine) -> Result<(), Memory>
 }
 
 fn put_rules(out: &mut Text, rules: &[RuleLine]) -> Result<(), Memory>
-    ensures { OnOk result (out.new ≡ out.old ++ Printed.texts_of Printed.rule_words rules.now) }
+    ensures ok { OnOk result (out.new ≡ out.old ++ Printed.texts_of Printed.rule_words rules.now) }
+    ensures err { OnErr result (IsFront out.old out.new) }
 {
     'rules: for rule in rules {
         put_rule(out, rule)?;
@@ -104,7 +114,8 @@ fn put_rules(out: &mut Text, rules: &[RuleLine]) -> Result<(), Memory>
 }
 
 fn put_version(out: &mut Text, version: &Version) -> Result<(), Memory>
-    ensures { OnOk result (out.new ≡ out.old ++ text_of (Printed.version_lines version.now)) }
+    ensures ok { OnOk result (out.new ≡ out.old ++ text_of (Printed.version_lines version.now)) }
+    ensures err { OnErr result (IsFront out.old out.new) }
 {
     out.extend(b"version\n")?;
     put_rules(out, version.rules.as_slice())
@@ -112,7 +123,8 @@ fn put_version(out: &mut Text, version: &Version) -> Result<(), Memory>
 
 /// Puts each version: a `version` line, and its rule lines.
 pub(crate) fn put_versions(out: &mut Text, versions: &[Version]) -> Result<(), Memory>
-    ensures { OnOk result (out.new ≡ out.old ++ flat_map (λ version. text_of (Printed.version_lines version)) versions.now) }
+    ensures ok { OnOk result (out.new ≡ out.old ++ flat_map (λ version. text_of (Printed.version_lines version)) versions.now) }
+    ensures err { OnErr result (IsFront out.old out.new) }
 {
     'versions: for version in versions {
         put_version(out, version)?;
