@@ -1,8 +1,9 @@
 //! Which questions have an audit line.
 
-ghost use Rattle.std.specs.Prelude.{◌≡◌, ◌++◌, IfOk, OnOk};
+ghost use Rattle.std.specs.Prelude.{◌++◌, ◌≡◌, IfOk, OnOk, OnErr};
 ghost use Rattle.std.specs.List.{filter};
 ghost use Rattle.text_print.specs.Printed.{context_with};
+ghost use Rattle.text_print.specs.Fronts.{IsFront};
 ghost use Rattle.audit_log.specs.Audited;
 
 use access_vectors::{Asked, Perm};
@@ -86,7 +87,8 @@ pub fn put_denials(
     sids: &SidTable,
     asked: &[Asked],
 ) -> Result<(), Memory>
-    ensures { OnOk result (out.new ≡ out.old ++ filter (Audited.is_denial policy.now sids.now) asked.now) }
+    ensures ok { OnOk result (out.new ≡ out.old ++ filter (Audited.is_denial policy.now sids.now) asked.now) }
+    ensures err { OnErr result (IsFront out.old out.new) }
 {
     'questions: for question in asked {
         if !question.yes && is_audited(policy, sids, question) {

@@ -1,6 +1,6 @@
 //! Audit lines, client by client.
 
-ghost use Rattle.std.specs.Prelude.{◌≡◌, ◌<◌, ◌∷◌, ◌++◌, [], ℕ, length, replicate, IfOk, OnOk, OnErr};
+ghost use Rattle.std.specs.Prelude.{◌≡◌, ◌<◌, ◌∷◌, ◌++◌, [], ℕ, length, replicate, take, IfOk, OnOk, OnErr};
 ghost use Rattle.audit_log.specs.Audited;
 ghost use Rattle.audit_log.specs.Logs;
 
@@ -50,7 +50,8 @@ impl AuditLog {
         self.clients[usize::from(line.client)].push(line)
     }
 
-    /// Puts the audit lines of an operation that asked these questions, in their order.
+    /// Puts the audit lines of an operation that asked these questions, in their order. After `Memory` the log has those of
+    /// the first so many questions, and no other line more.
     pub fn log(
         &mut self,
         policy: &PolicyParts,
@@ -60,6 +61,7 @@ impl AuditLog {
     ) -> Result<(), Memory>
         requires { acting.client < length self.old }
         ensures lines { OnOk result (Logs.Gains self.old self.new (Audited.lines_asked policy.now sids.now acting asked.now)) }
+        ensures err { OnErr result ((n : ℕ) × Logs.Gains self.old self.new (Audited.lines_asked policy.now sids.now acting (take n asked.now))) }
         ensures clients { length self.new ≡ length self.old }
     {
         'questions: for question in asked {

@@ -1,8 +1,9 @@
 //! How an audit line is written.
 
-ghost use Rattle.std.specs.Prelude.{◌≡◌, ◌∷◌, [], ◌++◌, IfOk, OnOk};
+ghost use Rattle.std.specs.Prelude.{◌≡◌, ◌∷◌, [], ◌++◌, IfOk, OnOk, OnErr};
 ghost use Rattle.std.specs.List.{flat_map};
 ghost use Rattle.text_print.specs.Printed.{behind, spaced};
+ghost use Rattle.text_print.specs.Fronts.{IsFront};
 ghost use Rattle.audit_log.specs.Texts;
 
 use crate::audited::AuditLine;
@@ -28,7 +29,8 @@ pub fn put_text(
     sids: &SidTable,
     name: &[u8],
 ) -> Result<(), Memory>
-    ensures { OnOk result (out.new ≡ out.old ++ Texts.line_text sids.now name.now line.now) }
+    ensures ok { OnOk result (out.new ≡ out.old ++ Texts.line_text sids.now name.now line.now) }
+    ensures err { OnErr result (IsFront out.old out.new) }
 {
     put_call(out, line, name)?;
     put_question(out, &line.asked, sids)?;
@@ -37,7 +39,8 @@ pub fn put_text(
 
 /// Puts which call it is, and how a question of it was answered.
 fn put_call(out: &mut Text, line: &AuditLine, name: &[u8]) -> Result<(), Memory>
-    ensures { OnOk result (out.new ≡ out.old ++ spaced (Texts.call_words name.now line.now)) }
+    ensures ok { OnOk result (out.new ≡ out.old ++ spaced (Texts.call_words name.now line.now)) }
+    ensures err { OnErr result (IsFront out.old out.new) }
 {
     out.extend(b"audit")?;
     put_word(out, name)?;
@@ -47,7 +50,8 @@ fn put_call(out: &mut Text, line: &AuditLine, name: &[u8]) -> Result<(), Memory>
 
 /// Puts the policy number, and ends the line.
 fn put_policy(out: &mut Text, number: u32) -> Result<(), Memory>
-    ensures { OnOk result (out.new ≡ out.old ++ (flat_map behind (Texts.policy_words number) ++ 10 ∷ [])) }
+    ensures ok { OnOk result (out.new ≡ out.old ++ (flat_map behind (Texts.policy_words number) ++ 10 ∷ [])) }
+    ensures err { OnErr result (IsFront out.old out.new) }
 {
     put_word(out, b"policy")?;
     put_numeral(out, u64::from(number))?;
@@ -56,7 +60,8 @@ fn put_policy(out: &mut Text, number: u32) -> Result<(), Memory>
 
 /// Puts a question, each word behind a space: source and target as contexts, class and permission.
 fn put_question(out: &mut Text, asked: &Asked, sids: &SidTable) -> Result<(), Memory>
-    ensures { OnOk result (out.new ≡ out.old ++ flat_map behind (Texts.question_words sids.now asked.now)) }
+    ensures ok { OnOk result (out.new ≡ out.old ++ flat_map behind (Texts.question_words sids.now asked.now)) }
+    ensures err { OnErr result (IsFront out.old out.new) }
 {
     let perm = asked.perm;
     put_label(out, sids, asked.s)?;

@@ -13,14 +13,14 @@ pub returns-in_err-put_gathered-clause-err : goal.returns-in_err-put_gathered-cl
 returns-in_err-put_gathered-clause-err g c =
     let more = one_gathered (line_text c.args.contexts.now c.args.name.now) c.args.lines.now c.lines.line-index c.line-item.result _ _ _ c.lines-test.true c.line-item.is c.lines.invariant.gathered in
     on_err_always _ _
-    (front_of_all (line_text c.args.contexts.now c.args.name.now) c.args.lines.now (c.lines.line-index + 1) _ _ (last_failed _ _ _ _ _ more (rw c.in_ok-put_text.ensures at c.in_err-put_gathered.ensures.err)))
+    (front_of_all (line_text c.args.contexts.now c.args.name.now) c.args.lines.now (c.lines.line-index + 1) _ _ (last_failed _ _ _ _ _ more (rw c.in_ok-put_text.ensures.ok at c.in_err-put_gathered.ensures.err)))
 
 pub lines-preserved : goal.lines-preserved
 lines-preserved g c =
     let more = one_gathered (line_text c.args.contexts.now c.args.name.now) c.args.lines.now c.lines.line-index c.line-item.result _ _ _ c.lines-test.true c.line-item.is c.lines.invariant.gathered in
     let gone = put_or_waits _ _ _ _ _ _ c.in_ok-put_gathered.ensures.ok in
     record {
-      gathered = offered_on _ _ _ _ _ _ more (rw c.in_ok-put_text.ensures at gone);
+      gathered = offered_on _ _ _ _ _ _ more (rw c.in_ok-put_text.ensures.ok at gone);
       quiet = omega (arith, c.lines.invariant.quiet, c.in_ok-put_gathered.ensures.cause.later, c.in_ok-put_gathered.ensures.cause.quiet (λ is. cc));
     }
 
