@@ -1,8 +1,9 @@
 //! Puts calls, each behind its client and its manager: one function for each shape of arguments.
 
-ghost use Rattle.std.specs.Prelude.{◌≡◌, ◌++◌, [], ◌∷◌, OnOk, decimal};
+ghost use Rattle.std.specs.Prelude.{◌≡◌, ◌++◌, [], ◌∷◌, decimal, OnOk, OnErr};
 ghost use Rattle.std.specs.List.{flat_map};
 ghost use Rattle.text_print.specs.Printed.{behind};
+ghost use Rattle.text_print.specs.Fronts.{IsFront};
 ghost use Rattle.session_forms.specs.CallNames;
 ghost use Rattle.session_print.specs.Words;
 ghost use Rattle.session_print.specs.CallWords;
@@ -26,7 +27,8 @@ pub fn put_file_call(
     clients: &[ClientLine],
     call: &FileCall,
 ) -> Result<(), Memory>
-    ensures { OnOk result (out.new ≡ out.old ++ flat_map behind (CallWords.file_words contexts.now clients.now call.now)) }
+    ensures ok { OnOk result (out.new ≡ out.old ++ flat_map behind (CallWords.file_words contexts.now clients.now call.now)) }
+    ensures err { OnErr result (IsFront out.old out.new) }
 {
     match call {
         FileCall::Mkdir { path } => put_on_path(out, name::MKDIR, path),
@@ -65,7 +67,8 @@ pub fn put_process_call(
     contexts: &[ContextLine],
     call: &ProcessCall,
 ) -> Result<(), Memory>
-    ensures { OnOk result (out.new ≡ out.old ++ flat_map behind (CallWords.process_words contexts.now call.now)) }
+    ensures ok { OnOk result (out.new ≡ out.old ++ flat_map behind (CallWords.process_words contexts.now call.now)) }
+    ensures err { OnErr result (IsFront out.old out.new) }
 {
     match *call {
         ProcessCall::Fork { pid } => put_with_number(out, name::FORK, pid),
@@ -88,7 +91,8 @@ pub fn put_process_call(
 /// Puts a call of the port manager.
 #[tactic(auto, unfolding(crate::specs::CallWords::port_words))]
 pub fn put_port_call(out: &mut Text, call: &PortCall) -> Result<(), Memory>
-    ensures { OnOk result (out.new ≡ out.old ++ flat_map behind (CallWords.port_words call.now)) }
+    ensures ok { OnOk result (out.new ≡ out.old ++ flat_map behind (CallWords.port_words call.now)) }
+    ensures err { OnErr result (IsFront out.old out.new) }
 {
     match call {
         PortCall::Bind { slot, port, mode } => {
@@ -108,36 +112,41 @@ pub fn put_port_call(out: &mut Text, call: &PortCall) -> Result<(), Memory>
 }
 
 fn put_on_path(out: &mut Text, call: &[u8], path: &FilePath) -> Result<(), Memory>
-    ensures { OnOk result (out.new ≡ out.old ++ flat_map behind (call.now ∷ Words.path_word path.now ∷ [])) }
+    ensures ok { OnOk result (out.new ≡ out.old ++ flat_map behind (call.now ∷ Words.path_word path.now ∷ [])) }
+    ensures err { OnErr result (IsFront out.old out.new) }
 {
     put_word(out, call)?;
     put_path(out, path)
 }
 
 fn put_with_number(out: &mut Text, call: &[u8], number: u32) -> Result<(), Memory>
-    ensures { OnOk result (out.new ≡ out.old ++ flat_map behind (call.now ∷ decimal number ∷ [])) }
+    ensures ok { OnOk result (out.new ≡ out.old ++ flat_map behind (call.now ∷ decimal number ∷ [])) }
+    ensures err { OnErr result (IsFront out.old out.new) }
 {
     put_word(out, call)?;
     put_numeral(out, u64::from(number))
 }
 
 fn put_with_numbers(out: &mut Text, call: &[u8], first: u32, second: u32) -> Result<(), Memory>
-    ensures { OnOk result (out.new ≡ out.old ++ flat_map behind (call.now ∷ decimal first ∷ decimal second ∷ [])) }
+    ensures ok { OnOk result (out.new ≡ out.old ++ flat_map behind (call.now ∷ decimal first ∷ decimal second ∷ [])) }
+    ensures err { OnErr result (IsFront out.old out.new) }
 {
     put_with_number(out, call, first)?;
     put_numeral(out, u64::from(second))
 }
 
 fn put_with_datum(out: &mut Text, call: &[u8], number: u32, datum: &Piece) -> Result<(), Memory>
-    ensures { OnOk result (out.new ≡ out.old ++ flat_map behind (call.now ∷ decimal number ∷ datum.now ∷ [])) }
+    ensures ok { OnOk result (out.new ≡ out.old ++ flat_map behind (call.now ∷ decimal number ∷ datum.now ∷ [])) }
+    ensures err { OnErr result (IsFront out.old out.new) }
 {
     put_with_number(out, call, number)?;
     put_word(out, datum.as_bytes())
 }
 
 fn put_open(out: &mut Text, slot: u8, path: &FilePath, mode: Vector) -> Result<(), Memory>
-    ensures { OnOk result (out.new ≡ out.old ++ flat_map behind
+    ensures ok { OnOk result (out.new ≡ out.old ++ flat_map behind
         (CallNames.open_file ∷ decimal slot ∷ Words.path_word path.now ∷ Words.mode_word mode ∷ [])) }
+    ensures err { OnErr result (IsFront out.old out.new) }
 {
     put_with_number(out, name::OPEN_FILE, u32::from(slot))?;
     put_path(out, path)?;
@@ -145,23 +154,26 @@ fn put_open(out: &mut Text, slot: u8, path: &FilePath, mode: Vector) -> Result<(
 }
 
 fn put_read(out: &mut Text, slot: u8, offset: u32, length: u32) -> Result<(), Memory>
-    ensures { OnOk result (out.new ≡ out.old ++ flat_map behind
+    ensures ok { OnOk result (out.new ≡ out.old ++ flat_map behind
         (CallNames.read_file ∷ decimal slot ∷ decimal offset ∷ decimal length ∷ [])) }
+    ensures err { OnErr result (IsFront out.old out.new) }
 {
     put_with_numbers(out, name::READ_FILE, u32::from(slot), offset)?;
     put_numeral(out, u64::from(length))
 }
 
 fn put_write(out: &mut Text, slot: u8, offset: u32, datum: &Piece) -> Result<(), Memory>
-    ensures { OnOk result (out.new ≡ out.old ++ flat_map behind
+    ensures ok { OnOk result (out.new ≡ out.old ++ flat_map behind
         (CallNames.write_file ∷ decimal slot ∷ decimal offset ∷ datum.now ∷ [])) }
+    ensures err { OnErr result (IsFront out.old out.new) }
 {
     put_with_numbers(out, name::WRITE_FILE, u32::from(slot), offset)?;
     put_word(out, datum.as_bytes())
 }
 
 fn put_list(out: &mut Text, path: &FilePath, skip: u32) -> Result<(), Memory>
-    ensures { OnOk result (out.new ≡ out.old ++ flat_map behind (CallNames.list ∷ Words.path_word path.now ∷ decimal skip ∷ [])) }
+    ensures ok { OnOk result (out.new ≡ out.old ++ flat_map behind (CallNames.list ∷ Words.path_word path.now ∷ decimal skip ∷ [])) }
+    ensures err { OnErr result (IsFront out.old out.new) }
 {
     put_on_path(out, name::LIST, path)?;
     put_numeral(out, u64::from(skip))
@@ -173,8 +185,9 @@ fn put_relabel(
     path: &FilePath,
     sid: Sid,
 ) -> Result<(), Memory>
-    ensures { OnOk result (out.new ≡ out.old ++ flat_map behind
+    ensures ok { OnOk result (out.new ≡ out.old ++ flat_map behind
         (CallNames.relabel ∷ Words.path_word path.now ∷ Words.context_word contexts.now sid ∷ [])) }
+    ensures err { OnErr result (IsFront out.old out.new) }
 {
     put_on_path(out, name::RELABEL, path)?;
     put_label(out, contexts, sid)
@@ -187,8 +200,9 @@ fn put_give(
     client: u8,
     target: u8,
 ) -> Result<(), Memory>
-    ensures { OnOk result (out.new ≡ out.old ++ flat_map behind
+    ensures ok { OnOk result (out.new ≡ out.old ++ flat_map behind
         (CallNames.give ∷ decimal slot ∷ Words.client_word clients.now client ∷ decimal target ∷ [])) }
+    ensures err { OnErr result (IsFront out.old out.new) }
 {
     put_with_number(out, name::GIVE, u32::from(slot))?;
     put_word(out, client_name(clients, client))?;
@@ -196,7 +210,8 @@ fn put_give(
 }
 
 fn put_exec(out: &mut Text, contexts: &[ContextLine], pid: u32, sid: Sid) -> Result<(), Memory>
-    ensures { OnOk result (out.new ≡ out.old ++ flat_map behind (CallNames.exec ∷ decimal pid ∷ Words.context_word contexts.now sid ∷ [])) }
+    ensures ok { OnOk result (out.new ≡ out.old ++ flat_map behind (CallNames.exec ∷ decimal pid ∷ Words.context_word contexts.now sid ∷ [])) }
+    ensures err { OnErr result (IsFront out.old out.new) }
 {
     put_with_number(out, name::EXEC, pid)?;
     put_label(out, contexts, sid)

@@ -1,7 +1,8 @@
 //! Puts the lines that run.
 
-ghost use Rattle.std.specs.Prelude.{◌≡◌, ◌++◌, [], ◌∷◌, OnOk};
+ghost use Rattle.std.specs.Prelude.{◌≡◌, ◌++◌, OnOk, OnErr};
 ghost use Rattle.text_print.specs.Printed.{behind, spaced, ended};
+ghost use Rattle.text_print.specs.Fronts.{IsFront};
 ghost use Rattle.policy_print.specs.Printed.{texts_of};
 ghost use Rattle.session_print.specs.Words;
 ghost use Rattle.session_print.specs.Printed;
@@ -21,7 +22,8 @@ pub fn put_runs(
     clients: &[ClientLine],
     lines: &[RunLine],
 ) -> Result<(), Memory>
-    ensures { OnOk result (out.new ≡ out.old ++ texts_of (Printed.run_line_words contexts.now clients.now) lines.now) }
+    ensures ok { OnOk result (out.new ≡ out.old ++ texts_of (Printed.run_line_words contexts.now clients.now) lines.now) }
+    ensures err { OnErr result (IsFront out.old out.new) }
 {
     'lines: for line in lines {
         put_run(out, contexts, clients, &line.run)?;
@@ -36,7 +38,8 @@ fn put_run(
     clients: &[ClientLine],
     run: &Run,
 ) -> Result<(), Memory>
-    ensures { OnOk result (out.new ≡ out.old ++ spaced (Printed.run_words contexts.now clients.now run.now)) }
+    ensures ok { OnOk result (out.new ≡ out.old ++ spaced (Printed.run_words contexts.now clients.now run.now)) }
+    ensures err { OnErr result (IsFront out.old out.new) }
 {
     match run {
         Run::File { client, call } => {
@@ -79,7 +82,8 @@ fn put_asked(
     client: u8,
     manager: Manager,
 ) -> Result<(), Memory>
-    ensures { OnOk result (out.new ≡ out.old ++ (Words.client_word clients.now client ++ behind (Words.manager_word manager))) }
+    ensures ok { OnOk result (out.new ≡ out.old ++ (Words.client_word clients.now client ++ behind (Words.manager_word manager))) }
+    ensures err { OnErr result (IsFront out.old out.new) }
 {
     out.extend(client_name(clients, client))?;
     put_manager(out, manager)

@@ -1,8 +1,9 @@
 //! A session printed as a text: its policy, its lines before the run, and the lines that run.
 
-ghost use Rattle.std.specs.Prelude.{◌≡◌, ◌++◌, ◌≤◌, OnOk, IfOk, length};
+ghost use Rattle.std.specs.Prelude.{◌++◌, ◌≡◌, ◌≤◌, IfOk, length, OnOk, OnErr};
 ghost use Rattle.text_lines.specs.Lines.{lines_of, line_limit};
 ghost use Rattle.text_print.specs.Printed.{text_of};
+ghost use Rattle.text_print.specs.Fronts.{IsFront};
 ghost use Rattle.session_print.specs.Printed;
 ghost use Rattle.session_print.specs.Same.{IsTextOf};
 
@@ -28,7 +29,8 @@ pub fn print(alloc: Global, session: &Session) -> Result<Piece, Memory>
 }
 
 fn put_below_policy(out: &mut Text, session: &SessionParts) -> Result<(), Memory>
-    ensures { OnOk result (out.new ≡ out.old ++ text_of (Printed.lines_below_policy session.now)) }
+    ensures ok { OnOk result (out.new ≡ out.old ++ text_of (Printed.lines_below_policy session.now)) }
+    ensures err { OnErr result (IsFront out.old out.new) }
 {
     out.extend(b"session\n")?;
     put_setup(out, session)?;

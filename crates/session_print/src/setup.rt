@@ -1,8 +1,9 @@
 //! Puts the session lines: what is there at the start.
 
-ghost use Rattle.std.specs.Prelude.{◌≡◌, ◌++◌, [], ◌∷◌, OnOk};
+ghost use Rattle.std.specs.Prelude.{◌≡◌, ◌++◌, OnOk, OnErr};
 ghost use Rattle.std.specs.List.{flat_map};
 ghost use Rattle.text_print.specs.Printed.{behind, ended, text_of};
+ghost use Rattle.text_print.specs.Fronts.{IsFront};
 ghost use Rattle.policy_print.specs.Printed.{texts_of};
 ghost use Rattle.session_print.specs.Printed;
 
@@ -16,7 +17,8 @@ use text_print::{put_numeral, put_word};
 
 /// Puts the session lines of a session.
 pub fn put_setup(out: &mut Text, session: &SessionParts) -> Result<(), Memory>
-    ensures { OnOk result (out.new ≡ out.old ++ text_of (Printed.setup_lines session.now)) }
+    ensures ok { OnOk result (out.new ≡ out.old ++ text_of (Printed.setup_lines session.now)) }
+    ensures err { OnErr result (IsFront out.old out.new) }
 {
     let contexts = session.policy.parts().contexts.as_slice();
     put_initial(out, contexts, b"root", session.root)?;
@@ -34,7 +36,8 @@ fn put_initial(
     what: &[u8],
     sid: Sid,
 ) -> Result<(), Memory>
-    ensures { OnOk result (out.new ≡ out.old ++ ended (Printed.initial_words contexts.now what.now sid)) }
+    ensures ok { OnOk result (out.new ≡ out.old ++ ended (Printed.initial_words contexts.now what.now sid)) }
+    ensures err { OnErr result (IsFront out.old out.new) }
 {
     out.extend(b"initial")?;
     put_word(out, what)?;
@@ -43,7 +46,8 @@ fn put_initial(
 }
 
 fn put_ports(out: &mut Text, contexts: &[ContextLine], ports: &[LabelledPort]) -> Result<(), Memory>
-    ensures { OnOk result (out.new ≡ out.old ++ texts_of (Printed.labelled_port_words contexts.now) ports.now) }
+    ensures ok { OnOk result (out.new ≡ out.old ++ texts_of (Printed.labelled_port_words contexts.now) ports.now) }
+    ensures err { OnErr result (IsFront out.old out.new) }
 {
     'ports: for line in ports {
         put_port(out, contexts, line)?;
@@ -52,7 +56,8 @@ fn put_ports(out: &mut Text, contexts: &[ContextLine], ports: &[LabelledPort]) -
 }
 
 fn put_port(out: &mut Text, contexts: &[ContextLine], line: &LabelledPort) -> Result<(), Memory>
-    ensures { OnOk result (out.new ≡ out.old ++ ended (Printed.labelled_port_words contexts.now line.now)) }
+    ensures ok { OnOk result (out.new ≡ out.old ++ ended (Printed.labelled_port_words contexts.now line.now)) }
+    ensures err { OnErr result (IsFront out.old out.new) }
 {
     out.extend(b"port")?;
     put_numeral(out, u64::from(line.port))?;
@@ -61,7 +66,8 @@ fn put_port(out: &mut Text, contexts: &[ContextLine], line: &LabelledPort) -> Re
 }
 
 fn put_audit(out: &mut Text, audit: bool) -> Result<(), Memory>
-    ensures { OnOk result (out.new ≡ out.old ++ text_of (Printed.audit_lines audit)) }
+    ensures ok { OnOk result (out.new ≡ out.old ++ text_of (Printed.audit_lines audit)) }
+    ensures err { OnErr result (IsFront out.old out.new) }
 {
     if audit {
         return out.extend(b"audit\n");
@@ -70,7 +76,8 @@ fn put_audit(out: &mut Text, audit: bool) -> Result<(), Memory>
 }
 
 fn put_nodes(out: &mut Text, contexts: &[ContextLine], nodes: &[Node]) -> Result<(), Memory>
-    ensures { OnOk result (out.new ≡ out.old ++ texts_of (Printed.node_words contexts.now) nodes.now) }
+    ensures ok { OnOk result (out.new ≡ out.old ++ texts_of (Printed.node_words contexts.now) nodes.now) }
+    ensures err { OnErr result (IsFront out.old out.new) }
 {
     'nodes: for node in nodes {
         put_node(out, contexts, node)?;
@@ -79,7 +86,8 @@ fn put_nodes(out: &mut Text, contexts: &[ContextLine], nodes: &[Node]) -> Result
 }
 
 fn put_node(out: &mut Text, contexts: &[ContextLine], node: &Node) -> Result<(), Memory>
-    ensures { OnOk result (out.new ≡ out.old ++ ended (Printed.node_words contexts.now node.now)) }
+    ensures ok { OnOk result (out.new ≡ out.old ++ ended (Printed.node_words contexts.now node.now)) }
+    ensures err { OnErr result (IsFront out.old out.new) }
 {
     put_kind(out, &node.bytes)?;
     put_path(out, &node.path)?;
@@ -89,7 +97,8 @@ fn put_node(out: &mut Text, contexts: &[ContextLine], node: &Node) -> Result<(),
 }
 
 fn put_kind(out: &mut Text, bytes: &Option<Piece>) -> Result<(), Memory>
-    ensures { OnOk result (out.new ≡ out.old ++ Printed.node_word bytes.now) }
+    ensures ok { OnOk result (out.new ≡ out.old ++ Printed.node_word bytes.now) }
+    ensures err { OnErr result (IsFront out.old out.new) }
 {
     match bytes {
         None => out.extend(b"dir"),
@@ -98,7 +107,8 @@ fn put_kind(out: &mut Text, bytes: &Option<Piece>) -> Result<(), Memory>
 }
 
 fn put_datum(out: &mut Text, bytes: &Option<Piece>) -> Result<(), Memory>
-    ensures { OnOk result (out.new ≡ out.old ++ flat_map behind (Printed.datum_words bytes.now)) }
+    ensures ok { OnOk result (out.new ≡ out.old ++ flat_map behind (Printed.datum_words bytes.now)) }
+    ensures err { OnErr result (IsFront out.old out.new) }
 {
     match bytes {
         None => Ok(()),
@@ -114,7 +124,8 @@ fn put_clients(
     contexts: &[ContextLine],
     clients: &[ClientLine],
 ) -> Result<(), Memory>
-    ensures { OnOk result (out.new ≡ out.old ++ texts_of (Printed.client_words contexts.now) clients.now) }
+    ensures ok { OnOk result (out.new ≡ out.old ++ texts_of (Printed.client_words contexts.now) clients.now) }
+    ensures err { OnErr result (IsFront out.old out.new) }
 {
     'clients: for client in clients {
         put_client(out, contexts, client)?;
@@ -123,7 +134,8 @@ fn put_clients(
 }
 
 fn put_client(out: &mut Text, contexts: &[ContextLine], client: &ClientLine) -> Result<(), Memory>
-    ensures { OnOk result (out.new ≡ out.old ++ ended (Printed.client_words contexts.now client.now)) }
+    ensures ok { OnOk result (out.new ≡ out.old ++ ended (Printed.client_words contexts.now client.now)) }
+    ensures err { OnErr result (IsFront out.old out.new) }
 {
     out.extend(b"client")?;
     put_word(out, client.name.as_bytes())?;

@@ -1,8 +1,9 @@
 //! Puts the words for what a session keeps by number, each behind a space.
 
-ghost use Rattle.std.specs.Prelude.{◌≡◌, ◌++◌, OnOk};
+ghost use Rattle.std.specs.Prelude.{◌++◌, ◌≡◌, OnOk, OnErr};
 ghost use Rattle.std.specs.List.{flat_map};
 ghost use Rattle.text_print.specs.Printed.{behind};
+ghost use Rattle.text_print.specs.Fronts.{IsFront};
 ghost use Rattle.session_print.specs.Words;
 
 use access_vectors::Vector;
@@ -15,7 +16,8 @@ use text_print::{put_context, put_word};
 
 /// Puts the declared context that an identifier stands for.
 pub fn put_label(out: &mut Text, contexts: &[ContextLine], sid: Sid) -> Result<(), Memory>
-    ensures { OnOk result (out.new ≡ out.old ++ behind (Words.context_word contexts.now sid)) }
+    ensures ok { OnOk result (out.new ≡ out.old ++ behind (Words.context_word contexts.now sid)) }
+    ensures err { OnErr result (IsFront out.old out.new) }
 {
     match contexts.get(usize::from(sid.number()) - 1) {
         Some(line) => put_context(out, &line.context),
@@ -35,7 +37,8 @@ pub fn client_name(clients: &[ClientLine], client: u8) -> &[u8]
 
 /// Puts a path.
 pub fn put_path(out: &mut Text, path: &FilePath) -> Result<(), Memory>
-    ensures { OnOk result (out.new ≡ out.old ++ behind (Words.path_word path.now)) }
+    ensures ok { OnOk result (out.new ≡ out.old ++ behind (Words.path_word path.now)) }
+    ensures err { OnErr result (IsFront out.old out.new) }
 {
     out.push(b' ')?;
     match path.as_slice() {
@@ -45,7 +48,8 @@ pub fn put_path(out: &mut Text, path: &FilePath) -> Result<(), Memory>
 }
 
 fn put_parts(out: &mut Text, parts: &[Piece]) -> Result<(), Memory>
-    ensures { OnOk result (out.new ≡ out.old ++ flat_map Words.part_text parts.now) }
+    ensures ok { OnOk result (out.new ≡ out.old ++ flat_map Words.part_text parts.now) }
+    ensures err { OnErr result (IsFront out.old out.new) }
 {
     'parts: for part in parts {
         out.push(b'/')?;
@@ -57,7 +61,8 @@ fn put_parts(out: &mut Text, parts: &[Piece]) -> Result<(), Memory>
 /// Puts the word of a manager.
 #[inline(always)]
 pub fn put_manager(out: &mut Text, manager: Manager) -> Result<(), Memory>
-    ensures { OnOk result (out.new ≡ out.old ++ behind (Words.manager_word manager)) }
+    ensures ok { OnOk result (out.new ≡ out.old ++ behind (Words.manager_word manager)) }
+    ensures err { OnErr result (IsFront out.old out.new) }
 {
     match manager {
         Manager::File => put_word(out, b"file"),
@@ -69,7 +74,8 @@ pub fn put_manager(out: &mut Text, manager: Manager) -> Result<(), Memory>
 /// Puts the mode of an open file.
 #[tactic(auto, unfolding(crate::specs::Words::mode_word))]
 pub fn put_mode(out: &mut Text, mode: Vector) -> Result<(), Memory>
-    ensures { OnOk result (out.new ≡ out.old ++ behind (Words.mode_word mode)) }
+    ensures ok { OnOk result (out.new ≡ out.old ++ behind (Words.mode_word mode)) }
+    ensures err { OnErr result (IsFront out.old out.new) }
 {
     match mode.bits() {
         1 => put_word(out, b"r"),
@@ -85,7 +91,8 @@ pub fn put_mode(out: &mut Text, mode: Vector) -> Result<(), Memory>
 /// Puts the mode of a bound port.
 #[tactic(auto, unfolding(crate::specs::Words::bind_word))]
 pub fn put_bind_mode(out: &mut Text, mode: Vector) -> Result<(), Memory>
-    ensures { OnOk result (out.new ≡ out.old ++ behind (Words.bind_word mode)) }
+    ensures ok { OnOk result (out.new ≡ out.old ++ behind (Words.bind_word mode)) }
+    ensures err { OnErr result (IsFront out.old out.new) }
 {
     if mode.bits() == 1 {
         put_word(out, b"b")
@@ -97,7 +104,8 @@ pub fn put_bind_mode(out: &mut Text, mode: Vector) -> Result<(), Memory>
 /// Puts the mode of a connection.
 #[tactic(auto, unfolding(crate::specs::Words::connect_word))]
 pub fn put_connect_mode(out: &mut Text, mode: Vector) -> Result<(), Memory>
-    ensures { OnOk result (out.new ≡ out.old ++ behind (Words.connect_word mode)) }
+    ensures ok { OnOk result (out.new ≡ out.old ++ behind (Words.connect_word mode)) }
+    ensures err { OnErr result (IsFront out.old out.new) }
 {
     if mode.bits() == 8 {
         put_word(out, b"c")
