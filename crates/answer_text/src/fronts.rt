@@ -1,8 +1,9 @@
 //! What stands in front of a reply: the line of the call, the client, the manager and the policy number.
 
-ghost use Rattle.std.specs.Prelude.{◌≡◌, ◌++◌, OnOk};
+ghost use Rattle.std.specs.Prelude.{◌≡◌, ◌++◌, OnOk, OnErr};
 ghost use Rattle.std.specs.List.{flat_map};
 ghost use Rattle.text_print.specs.Printed.{behind, spaced};
+ghost use Rattle.text_print.specs.Fronts.{IsFront};
 ghost use Rattle.answer_text.specs.Fronts;
 
 use flask_sid::{Memory, Text};
@@ -24,7 +25,8 @@ pub struct Front {
 /// Puts the words in front of a reply, with one space between them.
 #[inline(always)]
 pub fn put_front(out: &mut Text, clients: &[ClientLine], front: Front) -> Result<(), Memory>
-    ensures { OnOk result (out.new ≡ out.old ++ spaced (Fronts.front_words clients.now front)) }
+    ensures ok { OnOk result (out.new ≡ out.old ++ spaced (Fronts.front_words clients.now front)) }
+    ensures err { OnErr result (IsFront out.old out.new) }
 {
     put_number(out, u64::from(front.line))?;
     put_word(out, client_name(clients, front.client))?;
@@ -34,7 +36,8 @@ pub fn put_front(out: &mut Text, clients: &[ClientLine], front: Front) -> Result
 
 /// Puts what stands for a reply where a call was aborted, behind a space.
 pub fn put_aborted(out: &mut Text) -> Result<(), Memory>
-    ensures { OnOk result (out.new ≡ out.old ++ flat_map behind Fronts.aborted_words) }
+    ensures ok { OnOk result (out.new ≡ out.old ++ flat_map behind Fronts.aborted_words) }
+    ensures err { OnErr result (IsFront out.old out.new) }
 {
     put_word(out, b"aborted")
 }

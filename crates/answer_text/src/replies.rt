@@ -1,8 +1,9 @@
 //! Replies of the managers as the words of a line.
 
-ghost use Rattle.std.specs.Prelude.{◌≡◌, [], ◌∷◌, ◌++◌, List, OnOk, decimal};
+ghost use Rattle.std.specs.Prelude.{◌++◌, ◌≡◌, List, OnOk, OnErr};
 ghost use Rattle.std.specs.List.{flat_map};
 ghost use Rattle.text_print.specs.Printed.{behind};
+ghost use Rattle.text_print.specs.Fronts.{IsFront};
 ghost use Rattle.answer_text.specs.Replies;
 
 use access_vectors::{Perm, class_name, perm_name};
@@ -29,7 +30,8 @@ pub trait Worded {
 
     /// Puts its words, each behind a space.
     fn put(&self, out: &mut Text, contexts: &SidTable) -> Result<(), Memory>
-        ensures { OnOk result (out.new ≡ out.old ++ flat_map behind (words contexts.now self.now)) };
+        ensures ok { OnOk result (out.new ≡ out.old ++ flat_map behind (words contexts.now self.now)) }
+        ensures err { OnErr result (IsFront out.old out.new) };
 }
 
 impl Worded for FileReply {
@@ -118,7 +120,8 @@ impl Worded for PortReply {
 
 /// Puts bytes that were read: how many, and where there are any, these.
 fn put_data(out: &mut Text, bytes: &[u8]) -> Result<(), Memory>
-    ensures { OnOk result (out.new ≡ out.old ++ flat_map behind (Replies.data_words bytes.now)) }
+    ensures ok { OnOk result (out.new ≡ out.old ++ flat_map behind (Replies.data_words bytes.now)) }
+    ensures err { OnErr result (IsFront out.old out.new) }
 {
     put_word(out, b"data")?;
     put_numeral(out, bytes.len() as u64)?;
@@ -130,7 +133,8 @@ fn put_data(out: &mut Text, bytes: &[u8]) -> Result<(), Memory>
 
 /// Puts names that were listed: how many, and these.
 fn put_names(out: &mut Text, names: &[Piece]) -> Result<(), Memory>
-    ensures { OnOk result (out.new ≡ out.old ++ flat_map behind (Replies.names_words names.now)) }
+    ensures ok { OnOk result (out.new ≡ out.old ++ flat_map behind (Replies.names_words names.now)) }
+    ensures err { OnErr result (IsFront out.old out.new) }
 {
     put_word(out, b"names")?;
     put_numeral(out, names.len() as u64)?;
@@ -138,7 +142,8 @@ fn put_names(out: &mut Text, names: &[Piece]) -> Result<(), Memory>
 }
 
 fn put_each(out: &mut Text, names: &[Piece]) -> Result<(), Memory>
-    ensures { OnOk result (out.new ≡ out.old ++ flat_map behind names.now) }
+    ensures ok { OnOk result (out.new ≡ out.old ++ flat_map behind names.now) }
+    ensures err { OnErr result (IsFront out.old out.new) }
 {
     'names: for name in names {
         put_word(out, name.as_bytes())?;
@@ -148,7 +153,8 @@ fn put_each(out: &mut Text, names: &[Piece]) -> Result<(), Memory>
 
 /// Puts the context of a label, and a number.
 fn put_stat(out: &mut Text, contexts: &SidTable, sid: Sid, number: u64) -> Result<(), Memory>
-    ensures { OnOk result (out.new ≡ out.old ++ flat_map behind (Replies.stat_words contexts.now sid number)) }
+    ensures ok { OnOk result (out.new ≡ out.old ++ flat_map behind (Replies.stat_words contexts.now sid number)) }
+    ensures err { OnErr result (IsFront out.old out.new) }
 {
     put_word(out, b"stat")?;
     put_label(out, contexts, sid)?;
@@ -156,14 +162,16 @@ fn put_stat(out: &mut Text, contexts: &SidTable, sid: Sid, number: u64) -> Resul
 }
 
 fn put_told(out: &mut Text, number: u32) -> Result<(), Memory>
-    ensures { OnOk result (out.new ≡ out.old ++ flat_map behind (Replies.told_words number)) }
+    ensures ok { OnOk result (out.new ≡ out.old ++ flat_map behind (Replies.told_words number)) }
+    ensures err { OnErr result (IsFront out.old out.new) }
 {
     put_word(out, b"num")?;
     put_numeral(out, u64::from(number))
 }
 
 fn put_denial(out: &mut Text, perm: Perm) -> Result<(), Memory>
-    ensures { OnOk result (out.new ≡ out.old ++ flat_map behind (Replies.denial_words perm)) }
+    ensures ok { OnOk result (out.new ≡ out.old ++ flat_map behind (Replies.denial_words perm)) }
+    ensures err { OnErr result (IsFront out.old out.new) }
 {
     put_word(out, b"denied")?;
     put_word(out, class_name(perm.class()).as_bytes())?;

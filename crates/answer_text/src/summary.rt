@@ -1,7 +1,8 @@
 //! The line of a summary.
 
-ghost use Rattle.std.specs.Prelude.{◌≡◌, ◌++◌, OnOk};
+ghost use Rattle.std.specs.Prelude.{◌≡◌, ◌++◌, OnOk, OnErr};
 ghost use Rattle.text_print.specs.Printed.{ended};
+ghost use Rattle.text_print.specs.Fronts.{IsFront};
 ghost use Rattle.answer_text.specs.Summaries;
 
 use flask_sid::{Memory, Text};
@@ -9,7 +10,8 @@ use text_print::{put_numeral, put_word};
 
 /// Puts how many calls there were, how many of them were denied, and how many changes are complete, with the line end.
 pub fn put_summary(out: &mut Text, calls: u64, denied: u64, changes: u64) -> Result<(), Memory>
-    ensures { OnOk result (out.new ≡ out.old ++ ended (Summaries.summary_words calls denied changes)) }
+    ensures ok { OnOk result (out.new ≡ out.old ++ ended (Summaries.summary_words calls denied changes)) }
+    ensures err { OnErr result (IsFront out.old out.new) }
 {
     out.extend(b"calls")?;
     put_numeral(out, calls)?;
