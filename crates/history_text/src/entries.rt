@@ -1,7 +1,8 @@
 //! The line of an entry, and the line above a manager's entries.
 
-ghost use Rattle.std.specs.Prelude.{◌≡◌, ◌++◌, OnOk};
+ghost use Rattle.std.specs.Prelude.{◌++◌, ◌≡◌, OnOk, OnErr};
 ghost use Rattle.text_print.specs.Printed.{spaced, ended};
+ghost use Rattle.text_print.specs.Fronts.{IsFront};
 ghost use Rattle.history_text.specs.Histories;
 
 use answer_text::{Front, Worded, put_aborted, put_front};
@@ -14,7 +15,8 @@ use text_print::put_numeral;
 
 /// Puts the line above a manager's entries, with its line end.
 pub fn put_heading(out: &mut Text, manager: Manager) -> Result<(), Memory>
-    ensures { OnOk result (out.new ≡ out.old ++ ended (Histories.heading_words manager)) }
+    ensures ok { OnOk result (out.new ≡ out.old ++ ended (Histories.heading_words manager)) }
+    ensures err { OnErr result (IsFront out.old out.new) }
 {
     out.extend(b"history")?;
     put_manager(out, manager)?;
@@ -29,7 +31,8 @@ pub fn put_entry<K, R: Worded>(
     manager: Manager,
     entry: &Entry<K, R>,
 ) -> Result<(), Memory>
-    ensures { OnOk result (out.new ≡ out.old ++ ended (Histories.entry_words (R.words contexts.now) clients.now manager entry.now)) }
+    ensures ok { OnOk result (out.new ≡ out.old ++ ended (Histories.entry_words (R.words contexts.now) clients.now manager entry.now)) }
+    ensures err { OnErr result (IsFront out.old out.new) }
 {
     put_words(out, contexts, clients, manager, entry)?;
     out.push(b'\n')
@@ -42,7 +45,8 @@ fn put_words<K, R: Worded>(
     manager: Manager,
     entry: &Entry<K, R>,
 ) -> Result<(), Memory>
-    ensures { OnOk result (out.new ≡ out.old ++ spaced (Histories.entry_words (R.words contexts.now) clients.now manager entry.now)) }
+    ensures ok { OnOk result (out.new ≡ out.old ++ spaced (Histories.entry_words (R.words contexts.now) clients.now manager entry.now)) }
+    ensures err { OnErr result (IsFront out.old out.new) }
 {
     match entry {
         Entry::Op {
@@ -88,7 +92,8 @@ fn front_of(line: u32, client: u8, manager: Manager, number: u32) -> Front
 
 /// Puts a word of the administrator's, and a policy number.
 fn put_event(out: &mut Text, word: &[u8], number: u32) -> Result<(), Memory>
-    ensures { OnOk result (out.new ≡ out.old ++ spaced (Histories.event_words word.now number)) }
+    ensures ok { OnOk result (out.new ≡ out.old ++ spaced (Histories.event_words word.now number)) }
+    ensures err { OnErr result (IsFront out.old out.new) }
 {
     out.extend(word)?;
     put_numeral(out, u64::from(number))
