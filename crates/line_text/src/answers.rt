@@ -1,17 +1,19 @@
 //! What a line came to, as a line of words.
 
-ghost use Rattle.std.specs.Prelude.{◌≡◌, ◌++◌, OnOk};
+ghost use Rattle.std.specs.Prelude.{◌≡◌, ◌++◌, OnOk, OnErr};
 ghost use Rattle.std.specs.List.{flat_map};
 ghost use Rattle.text_print.specs.Printed.{behind, spaced, ended};
+ghost use Rattle.session_managers.specs.One.{got_answer};
+ghost use Rattle.session_runner.specs.Runs.{shown_call};
+ghost use Rattle.text_print.specs.Fronts.{IsFront};
 ghost use Rattle.line_text.specs.Answers;
 
 use crate::changes::{put_acks, put_notice, put_updated};
 use answer_text::{Front, Worded, put_aborted, put_front};
 use flask_sid::{Memory, SidTable, Text};
-use manager_history::Answer;
 use session_forms::Manager;
-use session_managers::Reply;
-use session_runner::LineAnswer;
+use session_managers::Got;
+use session_runner::{Called, Caller, LineAnswer};
 use session_text::ClientLine;
 use text_lines::put_number;
 use text_print::put_word;
@@ -25,9 +27,32 @@ pub fn put_answer(
     line: u32,
     answer: &LineAnswer,
 ) -> Result<(), Memory>
-    ensures { OnOk result (out.new ≡ out.old ++ ended (Answers.answer_words contexts.now clients.now line answer.now)) }
+    ensures ok { OnOk result (out.new ≡ out.old ++ ended (Answers.answer_words contexts.now clients.now line answer.now)) }
+    ensures err { OnErr result (IsFront out.old out.new) }
 {
     put_words(out, contexts, clients, line, answer)?;
+    out.push(b'\n')
+}
+
+/// Puts what a client's call got, with its line end.
+#[inline(always)]
+pub fn put_call(
+    out: &mut Text,
+    contexts: &SidTable,
+    clients: &[ClientLine],
+    called: &Called<'_>,
+) -> Result<(), Memory>
+    ensures ok { let one = shown_call called.now in OnOk result (out.new ≡ out.old ++ ended (Answers.answer_words contexts.now clients.now one.line one.answer)) }
+    ensures err { OnErr result (IsFront out.old out.new) }
+{
+    let Caller {
+        client,
+        manager,
+        number,
+        version: _,
+    } = called.caller;
+    put_front(out, clients, front_of(called.line, client, manager, number))?;
+    put_got(out, contexts, called.got)?;
     out.push(b'\n')
 }
 
@@ -39,7 +64,8 @@ fn put_words(
     line: u32,
     answer: &LineAnswer,
 ) -> Result<(), Memory>
-    ensures { OnOk result (out.new ≡ out.old ++ spaced (Answers.answer_words contexts.now clients.now line answer.now)) }
+    ensures ok { OnOk result (out.new ≡ out.old ++ spaced (Answers.answer_words contexts.now clients.now line answer.now)) }
+    ensures err { OnErr result (IsFront out.old out.new) }
 {
     match answer {
         LineAnswer::Replied {
@@ -49,7 +75,7 @@ fn put_words(
             got,
         } => {
             put_front(out, clients, front_of(line, *client, *manager, *number))?;
-            put_got(out, contexts, got)
+            put_got(out, contexts, Got::of(got))
         }
         LineAnswer::Begun {
             client,
@@ -97,7 +123,8 @@ fn front_of(line: u32, client: u8, manager: Manager, number: u32) -> Front
 /// Puts what stands in front of what the administrator is told.
 #[inline(always)]
 fn put_admin(out: &mut Text, line: u32) -> Result<(), Memory>
-    ensures { OnOk result (out.new ≡ out.old ++ spaced (Answers.admin_words line)) }
+    ensures ok { OnOk result (out.new ≡ out.old ++ spaced (Answers.admin_words line)) }
+    ensures err { OnErr result (IsFront out.old out.new) }
 {
     put_number(out, u64::from(line))?;
     put_word(out, b"admin")
@@ -105,13 +132,14 @@ fn put_admin(out: &mut Text, line: u32) -> Result<(), Memory>
 
 /// Puts what a call got.
 #[inline(always)]
-fn put_got(out: &mut Text, contexts: &SidTable, got: &Answer<Reply>) -> Result<(), Memory>
-    ensures { OnOk result (out.new ≡ out.old ++ flat_map behind (Answers.got_words contexts.now got.now)) }
+fn put_got(out: &mut Text, contexts: &SidTable, got: Got<'_>) -> Result<(), Memory>
+    ensures ok { OnOk result (out.new ≡ out.old ++ flat_map behind (Answers.got_words contexts.now (got_answer got.entry))) }
+    ensures err { OnErr result (IsFront out.old out.new) }
 {
     match got {
-        Answer::Did(Reply::File(reply)) => reply.put(out, contexts),
-        Answer::Did(Reply::Process(reply)) => reply.put(out, contexts),
-        Answer::Did(Reply::Port(reply)) => reply.put(out, contexts),
-        Answer::Aborted => put_aborted(out),
+        Got::File(reply) => reply.put(out, contexts),
+        Got::Process(reply) => reply.put(out, contexts),
+        Got::Port(reply) => reply.put(out, contexts),
+        Got::Aborted => put_aborted(out),
     }
 }

@@ -1,8 +1,9 @@
 //! What the administrator is told, as words.
 
-ghost use Rattle.std.specs.Prelude.{◌≡◌, ◌∷◌, [], ◌++◌, length, map, OnOk, decimal};
+ghost use Rattle.std.specs.Prelude.{◌≡◌, ◌∷◌, [], ◌++◌, length, map, OnOk, OnErr, decimal};
 ghost use Rattle.std.specs.List.{flat_map};
 ghost use Rattle.text_print.specs.Printed.{behind};
+ghost use Rattle.text_print.specs.Fronts.{IsFront};
 ghost use Rattle.line_text.specs.Answers;
 
 use change_protocol::{AckAll, NotifyAllFault, Said};
@@ -14,7 +15,8 @@ use text_print::{put_numeral, put_word};
 /// Puts what a notice got.
 #[inline(always)]
 pub(crate) fn put_notice(out: &mut Text, said: &Result<u32, NotifyAllFault>) -> Result<(), Memory>
-    ensures { OnOk result (out.new ≡ out.old ++ flat_map behind (Answers.notice_words said.now)) }
+    ensures ok { OnOk result (out.new ≡ out.old ++ flat_map behind (Answers.notice_words said.now)) }
+    ensures err { OnErr result (IsFront out.old out.new) }
 {
     match said {
         Ok(number) => put_numbered(out, b"notified", *number),
@@ -27,7 +29,8 @@ pub(crate) fn put_notice(out: &mut Text, said: &Result<u32, NotifyAllFault>) -> 
 
 #[inline(always)]
 fn put_numbered(out: &mut Text, word: &[u8], number: u32) -> Result<(), Memory>
-    ensures { OnOk result (out.new ≡ out.old ++ flat_map behind (word.now ∷ decimal number ∷ [])) }
+    ensures ok { OnOk result (out.new ≡ out.old ++ flat_map behind (word.now ∷ decimal number ∷ [])) }
+    ensures err { OnErr result (IsFront out.old out.new) }
 {
     put_word(out, word)?;
     put_numeral(out, u64::from(number))
@@ -35,14 +38,16 @@ fn put_numbered(out: &mut Text, word: &[u8], number: u32) -> Result<(), Memory>
 
 /// Puts what an update got.
 pub(crate) fn put_updated(out: &mut Text, left: &[u64]) -> Result<(), Memory>
-    ensures { OnOk result (out.new ≡ out.old ++ flat_map behind (Answers.updated_words left.now)) }
+    ensures ok { OnOk result (out.new ≡ out.old ++ flat_map behind (Answers.updated_words left.now)) }
+    ensures err { OnErr result (IsFront out.old out.new) }
 {
     put_word(out, b"updated")?;
     put_numerals(out, left)
 }
 
 fn put_numerals(out: &mut Text, numbers: &[u64]) -> Result<(), Memory>
-    ensures { OnOk result (out.new ≡ out.old ++ flat_map behind (map decimal numbers.now)) }
+    ensures ok { OnOk result (out.new ≡ out.old ++ flat_map behind (map decimal numbers.now)) }
+    ensures err { OnErr result (IsFront out.old out.new) }
 {
     match numbers {
         [] => Ok(()),
@@ -55,7 +60,8 @@ fn put_numerals(out: &mut Text, numbers: &[u64]) -> Result<(), Memory>
 
 /// Puts what an acknowledgement got.
 pub(crate) fn put_acks(out: &mut Text, acks: &Acks) -> Result<(), Memory>
-    ensures { OnOk result (out.new ≡ out.old ++ flat_map behind (Answers.acks_words acks.now)) }
+    ensures ok { OnOk result (out.new ≡ out.old ++ flat_map behind (Answers.acks_words acks.now)) }
+    ensures err { OnErr result (IsFront out.old out.new) }
 {
     match acks.all {
         AckAll::Idle => put_word(out, b"idle"),
@@ -68,7 +74,8 @@ pub(crate) fn put_acks(out: &mut Text, acks: &Acks) -> Result<(), Memory>
 }
 
 fn put_all_said(out: &mut Text, said: &[Said]) -> Result<(), Memory>
-    ensures { OnOk result (out.new ≡ out.old ++ flat_map behind (map Answers.said_word said.now)) }
+    ensures ok { OnOk result (out.new ≡ out.old ++ flat_map behind (map Answers.said_word said.now)) }
+    ensures err { OnErr result (IsFront out.old out.new) }
 {
     match said {
         [] => Ok(()),
@@ -82,7 +89,8 @@ fn put_all_said(out: &mut Text, said: &[Said]) -> Result<(), Memory>
 /// Puts what a manager said.
 #[inline(always)]
 fn put_said(out: &mut Text, said: &Said) -> Result<(), Memory>
-    ensures { OnOk result (out.new ≡ out.old ++ behind (Answers.said_word said.now)) }
+    ensures ok { OnOk result (out.new ≡ out.old ++ behind (Answers.said_word said.now)) }
+    ensures err { OnErr result (IsFront out.old out.new) }
 {
     match said {
         Said::Busy(older) => put_count(out, b"busy:", *older),
@@ -94,7 +102,8 @@ fn put_said(out: &mut Text, said: &Said) -> Result<(), Memory>
 
 #[inline(always)]
 fn put_count(out: &mut Text, why: &[u8], count: u64) -> Result<(), Memory>
-    ensures { OnOk result (out.new ≡ out.old ++ behind (why.now ++ decimal count)) }
+    ensures ok { OnOk result (out.new ≡ out.old ++ behind (why.now ++ decimal count)) }
+    ensures err { OnErr result (IsFront out.old out.new) }
 {
     put_word(out, why)?;
     put_number(out, count)

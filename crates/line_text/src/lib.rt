@@ -4,4 +4,4 @@
 mod answers;
 mod changes;
 
-pub use answers::put_answer;
+pub use answers::{put_answer, put_call};

@@ -53,6 +53,10 @@ said_on plain d post client call = said_at plain d post.state post.phase client 
 abbrev pub asked_on : {Call Reply State : Type 0} → Manager Call Reply State → Decisions → Post State → ℕ → Call → List Asked
 asked_on plain d post client call = if is_aborted post.phase (acting_number post client) then [] else (answer_on plain d post client call).asked
 
+-- the reply that a client's call gets: an aborted one none
+abbrev pub reply_on : {Call Reply State : Type 0} → Manager Call Reply State → Decisions → Post State → ℕ → Call → Option Reply
+reply_on plain d post client call = if is_aborted post.phase (acting_number post client) then None else Some (answer_on plain d post client call).reply
+
 -- the entry that a client's call adds to the history
 abbrev pub entry_on : {Call Reply State : Type 0} → Manager Call Reply State → Decisions → Post State → ℕ → ℕ → Call → Entry Call Reply
 entry_on plain d post client mark call = entry_at plain d post.state post.phase client mark call (acting_number post client)
@@ -87,6 +91,19 @@ asked_in (Some (entry.Forced number)) = []
 -- what the newest entry of a history asked
 unfoldable pub last_asked : {Call Reply : Type 0} → List (Entry Call Reply) → List Asked
 last_asked history = asked_in (slice_get history (length history - 1))
+
+-- the reply of an operation; other entries have none
+abbrev pub reply_in : {Call Reply : Type 0} → Option (Entry Call Reply) → Option Reply
+reply_in None = None
+reply_in (Some (entry.Op caller mark call number asked reply)) = Some reply
+reply_in (Some (entry.Aborted caller mark call number)) = None
+reply_in (Some (entry.Notice number version)) = None
+reply_in (Some (entry.Ack number)) = None
+reply_in (Some (entry.Forced number)) = None
+
+-- the reply that stands in the newest entry of a history
+unfoldable pub last_reply : {Call Reply : Type 0} → List (Entry Call Reply) → Option Reply
+last_reply history = reply_in (slice_get history (length history - 1))
 
 -- where a manager stands, with other held passes
 abbrev pub with_held : {State : Type 0} → Post State → List (Option ℕ) → Post State

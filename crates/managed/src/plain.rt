@@ -1,6 +1,7 @@
 //! A manager on one thread: its keeper, and the passes that its clients hold.
 
 ghost use Rattle.std.specs.Prelude.{◌≡◌, ◌+◌, ◌-◌, ◌<◌, ◌≤◌, false, true, [], ◌∷◌, ◌++◌, length, take, drop, replicate, min, None, IfOk, IfErr, OnOk, OnErr};
+ghost use Rattle.std.specs.Option.{option_copied};
 ghost use Rattle.access_vectors.specs.Asking.{counted};
 ghost use Rattle.access_vectors.specs.Notices.{notice_fault, IsRefusal};
 ghost use Rattle.access_vectors.specs.Phases.{number_of};
@@ -115,6 +116,18 @@ impl<'d, C: Core, D: Decider> Plain<'d, C, D> {
         match self.keeper.entries().last() {
             Some(Entry::Op { asked, .. }) => asked.as_slice(),
             _ => &[],
+        }
+    }
+
+    /// The reply that stands in the newest entry of the history; none where it is no operation.
+    #[tactic(auto, unfolding(crate::specs::Posts::last_reply))]
+    #[inline(always)]
+    pub fn last_reply(&self) -> Option<&C::Reply>
+        ensures { option_copied result ≡ Posts.last_reply self.now.keeper.history }
+    {
+        match self.keeper.entries().last() {
+            Some(Entry::Op { reply, .. }) => Some(reply),
+            _ => None,
         }
     }
 

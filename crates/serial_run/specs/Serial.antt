@@ -20,7 +20,7 @@ use Rattle.text_print.specs.Printed.{ended}
 
 -- what is printed of a line, where these contexts have identifiers
 abbrev pub line_text : List (ContextOf (List ℕ)) → List ClientLine → Shown → List ℕ
-line_text contexts clients one = ended (answer_words contexts clients one.outcome.line one.outcome.answer)
+line_text contexts clients one = ended (answer_words contexts clients one.line one.answer)
 
 -- what is printed of lines, in the text's order
 abbrev pub lines_text : List (ContextOf (List ℕ)) → List ClientLine → List Shown → List ℕ
@@ -34,7 +34,7 @@ caller_audit false policy contexts line caller asked = []
 
 -- the audit lines of a line: none where they are not printed
 abbrev pub line_audit : Bool → PolicyParts → List (ContextOf (List ℕ)) → Shown → List AuditLine
-line_audit audited policy contexts one = caller_audit audited policy contexts one.outcome.line one.outcome.caller one.asked
+line_audit audited policy contexts one = caller_audit audited policy contexts one.line one.caller one.asked
 
 -- the audit lines of lines, in the text's order: none where they are not printed
 abbrev pub lines_audit : Bool → PolicyParts → List (ContextOf (List ℕ)) → List Shown → List AuditLine

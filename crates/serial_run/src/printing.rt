@@ -1,21 +1,19 @@
 //! What the lines of a session print, as each is run.
 
-ghost use Rattle.std.specs.Prelude.{◌≡◌, ◌-◌, ◌<◌, length, replicate, [], Err, IfSome, IfOk, OnOk, OnErr};
+ghost use Rattle.std.specs.Prelude.{◌≡◌, ◌-◌, ◌<◌, length, replicate, [], Some, Err, IfOk, OnOk, OnErr};
 ghost use Rattle.audit_log.specs.Logs.{Gains};
 ghost use Rattle.flask_io.specs.Streams.{HasCause};
 ghost use Rattle.run_output.specs.Gathering.{GoesOut, PutsOrWaits};
 ghost use Rattle.run_output.specs.Writing.{AddsFront};
 ghost use Rattle.run_output.specs.declared.stop.RunStop.{RunStop};
-ghost use Rattle.session_runner.specs.declared.outcomes.Caller.{Caller};
 ghost use Rattle.serial_run.specs.Serial;
 
-use access_vectors::Asked;
 use audit_log::{Acting, AuditLog};
 use flask_io::Sink;
 use flask_sid::{Memory, Text};
-use line_text::put_answer;
+use line_text::{put_answer, put_call};
 use run_output::{RunStop, Setting, put_gathered, put_now};
-use session_runner::{Caller, LineOutcome, Recorder};
+use session_runner::{Called, LineAnswer, Recorder};
 use std::alloc::Global;
 
 /// So many answers go out each in a write of its own, so that a short run shows each as soon as it can. Those behind them go out many in
@@ -65,15 +63,16 @@ impl<'a, K: Sink> Recorder<K> for Printing<'a> {
     ghost stops = { StopsPrint K.written K.faults };
 
     #[inline(always)]
-    fn take(&mut self, outcome: LineOutcome, asked: &[Asked], sink: &mut K) -> Result<(), RunStop> {
-        let LineOutcome {
-            line,
-            answer,
-            caller,
-        } = outcome;
+    fn take_call(&mut self, called: Called<'_>, sink: &mut K) -> Result<(), RunStop> {
+        let (contexts, clients) = (self.setting.contexts, self.setting.clients);
+        put_call(&mut self.gathered, contexts, clients, &called)?;
+        log_call(&self.setting, &mut self.log, &called)?;
+        put_next(sink, &mut self.gathered, &mut self.alone)
+    }
+
+    fn take(&mut self, line: u32, answer: LineAnswer, sink: &mut K) -> Result<(), RunStop> {
         let (contexts, clients) = (self.setting.contexts, self.setting.clients);
         put_answer(&mut self.gathered, contexts, clients, line, &answer)?;
-        log_call(&self.setting, &mut self.log, line, caller, asked)?;
         put_next(sink, &mut self.gathered, &mut self.alone)
     }
 }
@@ -95,28 +94,20 @@ fn put_next<K: Sink>(sink: &mut K, gathered: &mut Text, alone: &mut u8) -> Resul
     }
 }
 
-/// Logs the audit lines of what the caller of a line asked, where they are printed.
-fn log_call(
-    setting: &Setting<'_>,
-    log: &mut AuditLog,
-    line: u32,
-    caller: Option<Caller>,
-    asked: &[Asked],
-) -> Result<(), Memory>
-    requires { IfSome caller (λ (caller : Caller). caller.client < length log.old) }
+/// Logs the audit lines of what a client's call asked, where they are printed.
+fn log_call(setting: &Setting<'_>, log: &mut AuditLog, called: &Called<'_>) -> Result<(), Memory>
+    requires { called.now.caller.client < length log.old }
     ensures gains { OnOk result (Gains log.old log.new
-        (Serial.caller_audit setting.now.audited setting.now.policy.now setting.now.contexts.now line caller asked.now)) }
+        (Serial.caller_audit setting.now.audited setting.now.policy.now setting.now.contexts.now called.now.line (Some called.now.caller) called.now.asked.now)) }
     ensures clients { length log.new ≡ length log.old }
 {
-    match caller {
-        Some(caller) if setting.audited => {
-            let acting = Acting {
-                client: caller.client,
-                mark: line,
-                number: caller.number,
-            };
-            log.log(setting.policy, setting.contexts, acting, asked)
-        }
-        _ => Ok(()),
+    if !setting.audited {
+        return Ok(());
     }
+    let acting = Acting {
+        client: called.caller.client,
+        mark: called.line,
+        number: called.caller.number,
+    };
+    log.log(setting.policy, setting.contexts, acting, called.asked)
 }

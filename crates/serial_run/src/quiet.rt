@@ -1,8 +1,7 @@
 //! A run of which nothing is kept but its counts.
 
-use access_vectors::Asked;
 use flask_sid::Memory;
-use session_runner::{LineOutcome, Recorder};
+use session_runner::{Called, LineAnswer, Recorder};
 
 /// Drops what each line came to.
 #[derive(Drop)]
@@ -18,7 +17,12 @@ impl Recorder<()> for Quiet {
     ghost stops = { λ quiet out one later stop. Unit {0} };
 
     #[inline(always)]
-    fn take(&mut self, _: LineOutcome, _: &[Asked], _: &mut ()) -> Result<(), Memory> {
+    fn take_call(&mut self, _: Called<'_>, _: &mut ()) -> Result<(), Memory> {
+        Ok(())
+    }
+
+    #[inline(always)]
+    fn take(&mut self, _: u32, _: LineAnswer, _: &mut ()) -> Result<(), Memory> {
         Ok(())
     }
 }

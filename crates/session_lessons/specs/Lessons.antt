@@ -22,7 +22,7 @@ caller_denials version policy contexts (Some caller) asked = if caller.version =
 
 -- what a line was denied under a version, but for what goes without an audit line
 abbrev pub line_denials : ℕ → PolicyParts → List (ContextOf (List ℕ)) → Shown → List Asked
-line_denials version policy contexts one = caller_denials version policy contexts one.outcome.caller one.asked
+line_denials version policy contexts one = caller_denials version policy contexts one.caller one.asked
 
 -- what lines were denied under a version, but for what goes without an audit line, in the text's order
 abbrev pub lines_denials : ℕ → PolicyParts → List (ContextOf (List ℕ)) → List Shown → List Asked

@@ -4,7 +4,7 @@ use access_vectors::Asked;
 use audit_log::put_denials;
 use flask_sid::{Memory, Rows, SidTable};
 use policy_model::PolicyParts;
-use session_runner::{LineOutcome, Recorder};
+use session_runner::{Called, LineAnswer, Recorder};
 
 /// Keeps what the calls of clients that act under a version are denied, but for what goes without an audit line.
 #[derive(Drop)]
@@ -26,17 +26,14 @@ impl<'a> Recorder<Rows<Asked>> for Learner<'a> {
 
     ghost stops = { λ learner out one later stop. Unit {0} };
 
-    fn take(
-        &mut self,
-        outcome: LineOutcome,
-        asked: &[Asked],
-        out: &mut Rows<Asked>,
-    ) -> Result<(), Memory> {
-        match outcome.caller {
-            Some(caller) if caller.version == self.version => {
-                put_denials(out, self.policy, self.contexts, asked)
-            }
-            _ => Ok(()),
+    fn take_call(&mut self, called: Called<'_>, out: &mut Rows<Asked>) -> Result<(), Memory> {
+        if called.caller.version == self.version {
+            put_denials(out, self.policy, self.contexts, called.asked)?;
         }
+        Ok(())
+    }
+
+    fn take(&mut self, _: u32, _: LineAnswer, _: &mut Rows<Asked>) -> Result<(), Memory> {
+        Ok(())
     }
 }

@@ -1,5 +1,5 @@
 -- What a client's call does to one manager, by what it does to the manager on one thread.
-use Rattle.std.proofs.Common.{◌≡◌, ℕ, Bool, true, false, [], ◌∷◌, ◌++◌, refl, sym, ap, subst, ◌∙◌, append-nil}
+use Rattle.std.proofs.Common.{◌≡◌, ℕ, Bool, true, false, List, [], ◌∷◌, ◌++◌, Some, None, refl, sym, ap, subst, ◌∙◌, append-nil}
 use Rattle.std.specs.Prelude.{map, if◌then◌else◌}
 use Rattle.std.proofs.lemmas.List.{map-append}
 use Rattle.std.proofs.lemmas.List.Elements.{All-nil, All-cons}
@@ -8,14 +8,18 @@ use Rattle.access_vectors.specs.Forced.{is_aborted}
 use Rattle.access_vectors.specs.Stale.{Follows, Pair}
 use Rattle.access_vectors.specs.declared.class.Class.{Class}
 use Rattle.std.specs.Prelude.{Option}
+use Rattle.manager_history.specs.declared.answers.Answer.TheVariants.{Did, Aborted}
+use Rattle.manager_history.specs.declared.entry.Entry.{Entry}
 use Rattle.manager_history.specs.declared.entry.Entry.TheVariants as entry
 use Rattle.manager_history.specs.Answers.{Answer, Manager}
 use Rattle.manager_history.specs.Histories.{operation}
-use Rattle.managed.specs.Posts.{Post, ManagerView, Following, IsSameUntried, post_of, acting_number, answer_on, entry_on, called, operated}
+use Rattle.managed.specs.Posts.{Post, ManagerView, Following, IsSameUntried, post_of, acting_number, answer_on, said_on, entry_on, called, operated, last_reply}
 use Rattle.managed.specs.Seen.{IsSame, IsServed, IsOperation, event_of}
 use Rattle.managed.specs.Administered.{seen_of}
 use Rattle.session_managers.specs.declared.one_manager.OneManager.{OneManager}
-use Rattle.session_managers.specs.One.{seen}
+use Rattle.session_managers.specs.declared.acting.Reply.{Reply}
+use Rattle.session_managers.specs.One.{seen, told, newest, answer_of, answer_with}
+use Rattle.managed.proofs.AskedLemmas.{asked_called, replied_called}
 use Rattle.managed.specs.declared.managed.Event.TheVariants.{Operation}
 
 -- the administrator sees a call, done or aborted
@@ -29,6 +33,22 @@ pub called_phase : {C R State : Type 0} (followed : Following C R State) (d : De
     → (called followed d post client asks answer).phase ≡ post.phase
 called_phase followed d post client asks answer =
     elim (is_aborted post.phase (acting_number post client)) as (λ (b : Bool). (if b then post else operated followed d post client asks answer).phase ≡ post.phase) [ true ↦ refl | false ↦ refl ]
+
+-- what stands in the newest entry after a call is what the call got and asked
+answer_under : {R : Type 0} (wrap : R → Reply) (got : R) (aborted : Bool)
+    → answer_with wrap (if aborted then None else Some got) ≡ answer_of wrap (if aborted then Aborted else Did got)
+answer_under wrap got true = refl
+answer_under wrap got false = refl
+
+pub called_told : {C R State : Type 0} (wrap : R → Reply) (plain : Manager C R State) (d : Decisions) (post : Post State) (client mark : ℕ) (asks : C) (history now : List (Entry C R))
+    → now ≡ history ++ entry_on plain d post client mark asks ∷ [] → newest wrap now ≡ told wrap plain d post client asks
+called_told wrap plain d post client mark asks history now added =
+    let number = acting_number post client in
+    let got = replied_called plain d post client mark asks history now added in
+    let asked = asked_called plain d post client mark asks history now added in
+    let answer : answer_with wrap (last_reply now) ≡ answer_of wrap (said_on plain d post client asks) =
+    ap (answer_with wrap) got ∙ answer_under wrap (answer_on plain d post client asks).reply (is_aborted post.phase number) in
+    rw (answer, asked) refl
 
 module _ {Core Decider C R State : Type 0} (decides : Decider → Decisions) (class : Class) (pair_of : State → ℕ → Option Pair) (opening state : Core → State) (follows : Core → Follows)
     (was now : ManagerView Core Decider C R) where

@@ -1,9 +1,8 @@
 -- The managers of a session stay the three that they are.
-use Rattle.std.proofs.Common.{◌≡◌, ◌+◌, ◌≤◌, arith, ℕ, List, Option, Some, None, Result, Ok, Err, refl, sym, ap, ◌∙◌}
+use Rattle.std.proofs.Common.{◌≡◌, ◌+◌, ◌≤◌, arith, ℕ, List, [], ◌∷◌, Option, Some, None, Result, Ok, Err, refl, sym, ap, ◌∙◌}
 use Rattle.std.specs.Prelude.{slice_get, slice_set}
 use Rattle.access_vectors.specs.Decisions.{Decisions}
 use Rattle.flask_sid.specs.declared.memory.Memory.{Memory}
-use Rattle.manager_history.specs.declared.answers.Answer.{Answer}
 use Rattle.managed.specs.Posts.{Post}
 use Rattle.security_server.specs.Numbering.{ServerView}
 use Rattle.change_protocol.specs.Changes.{Led, HasServed}
@@ -14,13 +13,14 @@ use Rattle.session_forms.specs.declared.run_forms.Manager.{Manager}
 use Rattle.session_forms.specs.declared.run_forms.Manager.TheVariants as manager
 use Rattle.session_managers.specs.declared.acting.Act.{Act}
 use Rattle.session_managers.specs.declared.acting.Act.TheVariants as act
-use Rattle.session_managers.specs.declared.acting.Reply.{Reply}
+use Rattle.session_managers.specs.declared.acting.Call.{Call}
+use Rattle.session_managers.specs.declared.acting.Call.TheVariants as call
 use Rattle.session_managers.specs.declared.one_manager.OneManager.{OneManager}
 use Rattle.session_managers.specs.declared.one_manager.OneManager.TheVariants.{File, Process, Port}
-use Rattle.session_managers.specs.SessionStates.{pending_at, counted_denial}
+use Rattle.session_managers.specs.SessionStates.{pending_at, counted_denial, manager_of, told_to, state_called}
 use Rattle.session_managers.specs.SessionViews.{number_of}
-use Rattle.session_managers.specs.One.{Files, Processes, Ports, IsKept, HasDone, place_of, decider_of, opening_of, phase}
-use Rattle.session_managers.specs.Standings.{IsSession}
+use Rattle.session_managers.specs.One.{Files, Processes, Ports, IsKept, HasCalled, HasDone, place_of, decider_of, opening_of, phase, denial_in, after_call}
+use Rattle.session_managers.specs.Standings.{IsSession, session_state_of}
 use Rattle.session_managers.proofs.OneLemmas.{stayed_seen}
 
 module _ {D : Type 0} (decides : D → Decisions) where
@@ -119,24 +119,42 @@ module _ {D : Type 0} (decides : D → Decisions) where
   same_kept : (was now : OneManager D) → now ≡ was → IsKept decides was now
   same_kept was now same = record { decider = ap decider_of same; opening = ap opening_of same; served = stayed_seen decides was now same }
 
-  pub done_kept : (client : ℕ) (was now : OneManager D) (done : Act) (said : Result (Option (Answer Reply)) Memory) → HasDone decides client was done now said → IsKept decides was now
-  done_kept client was now (act.Call mark asks) (Ok (Some got)) did = did.kept
-  done_kept client was now (act.Call mark asks) (Ok None) did = absurd did
+  pub done_kept : (client : ℕ) (was now : OneManager D) (done : Act) (said : Result (Unit {0}) Memory) → HasDone decides client was done now said → IsKept decides was now
+  done_kept client was now (act.Call mark asks) (Ok called) did = did.kept
   done_kept client was now (act.Call mark asks) (Err memory) did = same_kept was now did
-  done_kept client was now act.Begin (Ok None) did = did.kept
-  done_kept client was now act.Begin (Ok (Some got)) did = absurd did
+  done_kept client was now act.Begin (Ok begun) did = did.kept
   done_kept client was now act.Begin (Err memory) did = absurd did
-  done_kept client was now act.End (Ok None) did = did.kept
-  done_kept client was now act.End (Ok (Some got)) did = absurd did
+  done_kept client was now act.End (Ok ended) did = did.kept
   done_kept client was now act.End (Err memory) did = absurd did
 
   -- after a client's act
-  pub served_session : (led after : Led D (OneManager D)) (of : Manager) (number client : ℕ) (done : Act) (said : Result (Option (Answer Reply)) Memory) → IsSession led → number ≡ number_of of
+  pub served_session : (led after : Led D (OneManager D)) (of : Manager) (number client : ℕ) (done : Act) (said : Result (Unit {0}) Memory) → IsSession led → number ≡ number_of of
       → HasServed (λ was now. HasDone decides client was done now said) led.managers after.managers number
       → after.server ≡ led.server → after.reached ≡ led.reached → IsSession after
   served_session led after of number client done said s at served server reached =
       rw (server, reached) (acted_session led.server led.managers after.managers led.reached of served.was served.now s
       (rw at at served.there) (rw at at served.managers) (done_kept client served.was served.now done said served.done))
+
+  -- where the session stands after a client's call, with its denial counted
+  pub called_state : (led after : Led D (OneManager D)) (number client mark : ℕ) (asks : Call) (calls denied completed counted : ℕ) → IsSession led → number ≡ number_of (manager_of asks)
+      → HasServed (λ was now. HasCalled decides client mark was asks now) led.managers after.managers number
+      → counted ≡ counted_denial (denial_in (told_to (decides led.server.decider) (session_state_of led.managers calls denied completed) client asks).answer) denied
+      → session_state_of after.managers (calls + 1) counted completed ≡ state_called (decides led.server.decider) (session_state_of led.managers calls denied completed) client asks
+  called_state led after number client mark (call.File asks) calls denied completed counted s at served counted_is =
+      let here : served.was ≡ s.file = let found = rw (at, s.managers_are) at served.there in cc in
+      let now_is : place_of served.now ≡ after_call (decides led.server.decider) (Files s.files) client (call.File asks) = rw (here, s.file_decider, s.files_are) at served.done.place in
+      let are : after.managers ≡ served.now ∷ s.process ∷ s.port ∷ [] = rw (at, s.managers_are) at served.managers in
+      rw (counted_is, are, s.managers_are, now_is, s.files_are, s.processes_are, s.ports_are) refl
+  called_state led after number client mark (call.Process asks) calls denied completed counted s at served counted_is =
+      let here : served.was ≡ s.process = let found = rw (at, s.managers_are) at served.there in cc in
+      let now_is : place_of served.now ≡ after_call (decides led.server.decider) (Processes s.processes) client (call.Process asks) = rw (here, s.process_decider, s.processes_are) at served.done.place in
+      let are : after.managers ≡ s.file ∷ served.now ∷ s.port ∷ [] = rw (at, s.managers_are) at served.managers in
+      rw (counted_is, are, s.managers_are, now_is, s.files_are, s.processes_are, s.ports_are) refl
+  called_state led after number client mark (call.Port asks) calls denied completed counted s at served counted_is =
+      let here : served.was ≡ s.port = let found = rw (at, s.managers_are) at served.there in cc in
+      let now_is : place_of served.now ≡ after_call (decides led.server.decider) (Ports s.ports) client (call.Port asks) = rw (here, s.port_decider, s.ports_are) at served.done.place in
+      let are : after.managers ≡ s.file ∷ s.process ∷ served.now ∷ [] = rw (at, s.managers_are) at served.managers in
+      rw (counted_is, are, s.managers_are, now_is, s.files_are, s.processes_are, s.ports_are) refl
 
 -- a denial is counted as one of the calls
 pub counted_few : {A : Type 0} (denial : Option A) (denied calls : ℕ) → denied ≤ calls → counted_denial denial denied ≤ calls + 1

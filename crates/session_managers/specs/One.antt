@@ -9,7 +9,8 @@ use Rattle.flask_sid.specs.declared.memory.Memory.{Memory}
 use Rattle.manager_history.specs.Answers.{Denial, Manager}
 use Rattle.manager_history.specs.declared.answers.Answer.{Answer}
 use Rattle.manager_history.specs.declared.answers.Answer.TheVariants.{Did, Aborted}
-use Rattle.managed.specs.Posts.{Post, ManagerView, post_of, said_on, asked_on, answer_on, acting_number, called, begun, ended, last_asked as asked_last}
+use Rattle.manager_history.specs.declared.entry.Entry.{Entry}
+use Rattle.managed.specs.Posts.{Post, ManagerView, post_of, said_on, asked_on, answer_on, acting_number, called, begun, ended, last_asked, last_reply}
 use Rattle.managed.specs.Seen.{Seen, IsServed}
 use Rattle.managed.specs.Administered.{seen_of, IsSameBesidesChange}
 use Rattle.managed.specs.declared.managed.Event.TheVariants.{Operation}
@@ -27,6 +28,8 @@ use Rattle.session_managers.specs.declared.acting.Act.TheVariants as act
 use Rattle.session_managers.specs.declared.acting.ClientAct.{ClientAct}
 use Rattle.session_managers.specs.declared.acting.Call.{Call}
 use Rattle.session_managers.specs.declared.acting.Call.TheVariants as call
+use Rattle.session_managers.specs.declared.acting.Got.{Got}
+use Rattle.session_managers.specs.declared.acting.Got.TheVariants as lent
 use Rattle.session_managers.specs.declared.acting.Reply.{Reply}
 use Rattle.session_managers.specs.declared.acting.Reply.TheVariants as reply
 use Rattle.session_managers.specs.declared.one_manager.OneManager.{OneManager}
@@ -48,6 +51,18 @@ denial_of (reply.Port got) = port.denial_of got
 abbrev pub answer_of : {R : Type 0} → (R → Reply) → Answer R → Answer Reply
 answer_of wrap (Did got) = Did (wrap got)
 answer_of wrap Aborted = Aborted
+
+-- a reply as an answer of one of the three managers; no reply is an aborted call's
+abbrev pub answer_with : {R : Type 0} → (R → Reply) → Option R → Answer Reply
+answer_with wrap (Some got) = Did (wrap got)
+answer_with wrap None = Aborted
+
+-- what is lent from a history, as an answer
+abbrev pub got_answer : Got → Answer Reply
+got_answer (lent.File got) = Did (reply.File got.now)
+got_answer (lent.Process got) = Did (reply.Process got.now)
+got_answer (lent.Port got) = Did (reply.Port got.now)
+got_answer lent.Aborted = Aborted
 
 -- the denial that an answer is, if it is one: an aborted call is none
 abbrev pub denial_in : Answer Reply → Option Denial
@@ -106,7 +121,7 @@ phase (Files post) = post.phase
 phase (Processes post) = post.phase
 phase (Ports post) = post.phase
 
--- where a manager on one thread stands, its decider, and what its newest call asked
+-- where a manager on one thread stands, and its decider
 abbrev pub place_of : {D : Type 0} → OneManager D → Place
 place_of (File files) = Files (post_of file_store.state_of file_store.follows files)
 place_of (Process processes) = Processes (post_of process_store.state_of process_store.follows processes)
@@ -117,10 +132,14 @@ decider_of (File files) = files.keeper.decider
 decider_of (Process processes) = processes.keeper.decider
 decider_of (Port ports) = ports.keeper.decider
 
-abbrev pub last_asked : {D : Type 0} → OneManager D → List Asked
-last_asked (File files) = asked_last files.keeper.history
-last_asked (Process processes) = asked_last processes.keeper.history
-last_asked (Port ports) = asked_last ports.keeper.history
+-- what a manager's newest call got and asked, by its history: where the newest entry is no call that was done, as where one was aborted
+abbrev pub newest : {C R : Type 0} → (R → Reply) → List (Entry C R) → Told
+newest wrap history = record { answer = answer_with wrap (last_reply history); asked = last_asked history }
+
+abbrev pub last_told : {D : Type 0} → OneManager D → Told
+last_told (File files) = newest reply.File files.keeper.history
+last_told (Process processes) = newest reply.Process processes.keeper.history
+last_told (Port ports) = newest reply.Port ports.keeper.history
 
 -- what it was opened with, as the plain state of its opening
 pub data Opened : Type 0 where
@@ -209,12 +228,11 @@ module _ {D : Type 0} (decides : D → Decisions) where
     pub opening : opening_of now ≡ opening_of was
     pub served : IsServed (seen was) (seen now)
 
-  -- a call was done: it stands in the history under the client's mark
-  pub record HasCalled (client mark : ℕ) (was : OneManager D) (asks : Call) (now : OneManager D) (got : Answer Reply) : Type 0 where
+  -- a call was done: it stands in the history under the client's mark, with what it got and asked
+  pub record HasCalled (client mark : ℕ) (was : OneManager D) (asks : Call) (now : OneManager D) : Type 0 where
     pub told : Told
     pub tells : TellsCall (decides (decider_of was)) (place_of was) client asks told
-    pub answer : got ≡ told.answer
-    pub asked : last_asked now ≡ told.asked
+    pub told_is : last_told now ≡ told
     pub place : place_of now ≡ after_call (decides (decider_of was)) (place_of was) client asks
     pub added : (seen now).history ≡ (seen was).history ++ Operation client mark (acting (place_of was) client) ∷ []
     pub kept : IsKept was now
@@ -222,17 +240,18 @@ module _ {D : Type 0} (decides : D → Decisions) where
   -- a client took a pass, or gave its own back
   pub record HasPassed (was now : OneManager D) (after : Place) : Type 0 where
     pub place : place_of now ≡ after
-    pub asked : last_asked now ≡ last_asked was
+    pub told : last_told now ≡ last_told was
     pub history : (seen now).history ≡ (seen was).history
     pub kept : IsKept was now
 
   -- what a client's act does to a manager; want of memory leaves all as it was
-  abbrev pub HasDone : ℕ → OneManager D → Act → OneManager D → Result (Option (Answer Reply)) Memory → Type 0
-  HasDone client was (act.Call mark asks) now (Ok (Some got)) = HasCalled client mark was asks now got
+  abbrev pub HasDone : ℕ → OneManager D → Act → OneManager D → Result (Unit {0}) Memory → Type 0
+  HasDone client was (act.Call mark asks) now (Ok done) = HasCalled client mark was asks now
   HasDone client was (act.Call mark asks) now (Err memory) = now ≡ was
-  HasDone client was act.Begin now (Ok None) = HasPassed was now (after_begin client (place_of was))
-  HasDone client was act.End now (Ok None) = HasPassed was now (after_end client (place_of was))
-  HasDone client was done now said = ⊥
+  HasDone client was act.Begin now (Ok done) = HasPassed was now (after_begin client (place_of was))
+  HasDone client was act.Begin now (Err memory) = ⊥
+  HasDone client was act.End now (Ok done) = HasPassed was now (after_end client (place_of was))
+  HasDone client was act.End now (Err memory) = ⊥
 
-  abbrev pub Does : OneManager D → OneManager D → ClientAct → Result (Option (Answer Reply)) Memory → Type 0
+  abbrev pub Does : OneManager D → OneManager D → ClientAct → Result (Unit {0}) Memory → Type 0
   Does was now done said = HasDone done.client was done.act now said

@@ -38,24 +38,32 @@ use Rattle.port_calls.specs.States as port_states
 use Rattle.port_calls.specs.States.{PortState, Bound}
 use Rattle.port_calls.specs.contracts.opening.PortOpening as port_opening_type
 use Rattle.port_calls.specs.declared.opening.PortOpening.{PortOpening}
+use Rattle.manager_history.specs.declared.answers.Answer.{Answer}
+use Rattle.manager_history.specs.declared.answers.Answer.TheVariants.{Did, Aborted}
+use Rattle.session_managers.specs.One.{Told}
 use Rattle.session_managers.specs.SessionStates.{SessionState, with_posts}
+use Rattle.session_managers.specs.contracts.acting.Reply as reply_type
+use Rattle.session_managers.specs.declared.acting.Reply.{Reply}
 use Rattle.session_managers.specs.declared.opening.Openings.{Openings}
 
--- what the newest call of each manager asked
-pub record LastAsked : Type 0 where
-  pub files : List Asked
-  pub processes : List Asked
-  pub ports : List Asked
+-- what the newest call of each manager got and asked
+pub record LastTold : Type 0 where
+  pub files : Told
+  pub processes : Told
+  pub ports : Told
 
--- before the first call
-abbrev pub none_asked : LastAsked
-none_asked = record { files = []; processes = []; ports = [] }
+-- before the first call, as where a call was aborted
+abbrev pub nothing_told : Told
+nothing_told = record { answer = Aborted; asked = [] }
 
--- what the newest call of one manager asked
-abbrev pub asked_of : LastAsked → Manager → List Asked
-asked_of asked manager.File = asked.files
-asked_of asked manager.Process = asked.processes
-asked_of asked manager.Port = asked.ports
+abbrev pub none_told : LastTold
+none_told = record { files = nothing_told; processes = nothing_told; ports = nothing_told }
+
+-- what the newest call of one manager got and asked
+abbrev pub told_of : LastTold → Manager → Told
+told_of told manager.File = told.files
+told_of told manager.Process = told.processes
+told_of told manager.Port = told.ports
 
 -- the histories of the three managers, as the administrator sees them: a call with its caller, its mark and its number
 pub record Events : Type 0 where
@@ -82,12 +90,12 @@ number_of manager.File = 0
 number_of manager.Process = 1
 number_of manager.Port = 2
 
--- what contracts see of the managers of a session: where it stands, what decides, what the newest calls asked, the histories, and
+-- what contracts see of the managers of a session: where it stands, what decides, what the newest calls got and asked, the histories, and
 -- whether every manager has the notice of the number that is proposed, if one is
 pub record Standing (Decider : Type 0) : Type 0 where
   pub state : SessionState
   pub decider : Decider
-  pub asked : LastAsked
+  pub told : LastTold
   pub events : Events
   pub whole : Bool
 
@@ -143,13 +151,28 @@ state_code =
     (λ p. record { files = p.0; processes = p.1.0; ports = p.1.1.0; calls = p.1.1.1.0; denied = p.1.1.1.1.0; changes = p.1.1.1.1.1 })
     (λ _. refl)
 
-abbrev pub asked_code : Coded LastAsked
-asked_code =
-    code_by (List Asked × (List Asked × List Asked))
-    (coded× (coded_list asked_type.the_row.coded) (coded× (coded_list asked_type.the_row.coded) (coded_list asked_type.the_row.coded)))
-    (λ asked. (asked.files, (asked.processes, asked.ports)))
-    (λ p. record { files = p.0; processes = p.1.0; ports = p.1.1 })
-    (λ _. refl)
+abbrev pub got_of : Answer Reply → Option Reply
+got_of (Did got) = Some got
+got_of Aborted = None
+
+abbrev pub answer_by : Option Reply → Answer Reply
+answer_by (Some got) = Did got
+answer_by None = Aborted
+
+pub answer_again : (answer : Answer Reply) → answer_by (got_of answer) ≡ answer
+answer_again (Did got) = refl
+answer_again Aborted = refl
+
+abbrev pub answer_code : Coded (Answer Reply)
+answer_code = code_by (Option Reply) (coded_option reply_type.the_row.coded) got_of answer_by answer_again
+
+abbrev pub told_code : Coded Told
+told_code =
+    code_by (Answer Reply × List Asked) (coded× answer_code (coded_list asked_type.the_row.coded)) (λ told. (told.answer, told.asked)) (λ p. record { answer = p.0; asked = p.1 }) (λ _. refl)
+
+abbrev pub all_told_code : Coded LastTold
+all_told_code =
+    code_by (Told × (Told × Told)) (coded× told_code (coded× told_code told_code)) (λ told. (told.files, (told.processes, told.ports))) (λ p. record { files = p.0; processes = p.1.0; ports = p.1.1 }) (λ _. refl)
 
 abbrev pub events_code : Coded Events
 events_code =
@@ -161,9 +184,9 @@ events_code =
 
 abbrev pub standing_code : {Decider : Type 0} → Coded Decider → Coded (Standing Decider)
 standing_code {Decider = Decider} code =
-    code_by (SessionState × (Decider × (LastAsked × (Events × Bool)))) (coded× state_code (coded× code (coded× asked_code (coded× events_code coded_bool))))
-    (λ standing. (standing.state, (standing.decider, (standing.asked, (standing.events, standing.whole)))))
-    (λ p. record { state = p.0; decider = p.1.0; asked = p.1.1.0; events = p.1.1.1.0; whole = p.1.1.1.1 })
+    code_by (SessionState × (Decider × (LastTold × (Events × Bool)))) (coded× state_code (coded× code (coded× all_told_code (coded× events_code coded_bool))))
+    (λ standing. (standing.state, (standing.decider, (standing.told, (standing.events, standing.whole)))))
+    (λ p. record { state = p.0; decider = p.1.0; told = p.1.1.0; events = p.1.1.1.0; whole = p.1.1.1.1 })
     (λ _. refl)
 
 -- the identifiers of what the managers are opened with are the decider's, and the files' nodes are those of a tree

@@ -2,7 +2,6 @@
 use Rattle.std.specs.Prelude.{◌≡◌, ℕ, true, Bool, not, ◌&&◌, nat_lt, unwrap_or, List, [], ◌∷◌, slice_get, Option, Some, option_map}
 use Rattle.access_vectors.specs.Decisions.{Decisions}
 use Rattle.access_vectors.specs.Phases.{is_pending}
-use Rattle.access_vectors.specs.declared.asked.Asked.{Asked}
 use Rattle.managed.specs.Posts.{Post, opened_post}
 use Rattle.managed.specs.declared.managed.Event.{Event}
 use Rattle.change_protocol.specs.Changes.{Led}
@@ -10,9 +9,9 @@ use Rattle.file_calls.specs.States as file_states
 use Rattle.process_calls.specs.States as process_states
 use Rattle.port_calls.specs.States as port_states
 use Rattle.session_managers.specs.SessionStates.{SessionState, most_number, pending_at}
-use Rattle.session_managers.specs.SessionViews.{Standing}
+use Rattle.session_managers.specs.SessionViews.{Standing, nothing_told}
 use Rattle.session_managers.specs.One as one
-use Rattle.session_managers.specs.One.{Place, Files, Processes, Ports}
+use Rattle.session_managers.specs.One.{Place, Files, Processes, Ports, Told}
 use Rattle.session_managers.specs.declared.one_manager.OneManager.{OneManager}
 
 -- where each of the three stands; where it is another's place, as one that nothing was opened with
@@ -43,9 +42,9 @@ session_state_of managers calls denied changes = record {
   changes = changes;
 }
 
--- what the manager of that number asked last, and its history
-abbrev pub asked_at : {D : Type 0} → List (OneManager D) → ℕ → List Asked
-asked_at managers number = unwrap_or (option_map one.last_asked (slice_get managers number)) []
+-- what the newest call of the manager of that number got and asked, and its history
+abbrev pub told_at : {D : Type 0} → List (OneManager D) → ℕ → Told
+told_at managers number = unwrap_or (option_map one.last_told (slice_get managers number)) nothing_told
 
 abbrev pub events_at : {D : Type 0} → (D → Decisions) → List (OneManager D) → ℕ → List Event
 events_at decides managers number = unwrap_or (option_map (λ m. (one.seen decides m).history) (slice_get managers number)) []
@@ -59,7 +58,7 @@ abbrev pub standing_of : {D : Type 0} → (D → Decisions) → Led D (OneManage
 standing_of decides led calls denied changes = record {
   state = session_state_of led.managers calls denied changes;
   decider = led.server.decider;
-  asked = record { files = asked_at led.managers 0; processes = asked_at led.managers 1; ports = asked_at led.managers 2 };
+  told = record { files = told_at led.managers 0; processes = told_at led.managers 1; ports = told_at led.managers 2 };
   events = record {
     files = events_at decides led.managers 0;
     processes = events_at decides led.managers 1;

@@ -26,6 +26,15 @@ pub enum Reply {
     Port(PortReply),
 }
 
+/// What a call got, lent from a manager's history: the reply, or that the call was aborted.
+#[derive(Clone, Copy, Debug)]
+pub enum Got<'m> {
+    File(&'m FileReply),
+    Process(&'m ProcessReply),
+    Port(&'m PortReply),
+    Aborted,
+}
+
 /// What a client does at a manager: a call under the client's own number of it, or it takes a pass or gives its pass back.
 #[derive(Debug, Drop)]
 pub enum Act {
@@ -54,26 +63,30 @@ impl Call {
     }
 }
 
-/// Whether a call's answer is a denial; that it was aborted is none.
-pub(crate) fn is_denied(answer: &Answer<Reply>) -> bool
-    ensures { result ≡ is_some (One.denial_in answer.now) }
-{
-    match answer {
-        Answer::Did(reply) => reply.is_denied(),
-        Answer::Aborted => false,
+impl<'m> Got<'m> {
+    /// What an answer holds, lent.
+    #[inline(always)]
+    pub fn of(answer: &'m Answer<Reply>) -> Got<'m>
+        ensures { One.got_answer result ≡ answer.now }
+    {
+        match answer {
+            Answer::Did(Reply::File(reply)) => Got::File(reply),
+            Answer::Did(Reply::Process(reply)) => Got::Process(reply),
+            Answer::Did(Reply::Port(reply)) => Got::Port(reply),
+            Answer::Aborted => Got::Aborted,
+        }
     }
-}
 
-impl Reply {
-    /// Whether the reply is a denial.
-    pub fn is_denied(&self) -> bool
-        ensures { result ≡ is_some (One.denial_of self.now) }
+    /// Whether it is a denial; that the call was aborted is none.
+    #[inline(always)]
+    pub(crate) fn is_denied(self) -> bool
+        ensures { result ≡ is_some (One.denial_in (One.got_answer self.entry)) }
     {
         matches!(
             self,
-            Reply::File(FileReply::Denied { .. })
-                | Reply::Process(ProcessReply::Denied { .. })
-                | Reply::Port(PortReply::Denied { .. })
+            Got::File(FileReply::Denied { .. })
+                | Got::Process(ProcessReply::Denied { .. })
+                | Got::Port(PortReply::Denied { .. })
         )
     }
 }

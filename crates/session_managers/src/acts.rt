@@ -1,44 +1,28 @@
 //! What clients do: calls, and passes.
 
-ghost use Rattle.std.specs.Prelude.{◌≡◌, ◌+◌, ◌<◌, ◌^◌, IfOk, OnOk, OnErr};
+ghost use Rattle.std.specs.Prelude.{◌≡◌, ◌+◌, ◌<◌, ◌^◌, OnOk, OnErr};
 ghost use Rattle.session_managers.specs.SessionStates;
 ghost use Rattle.session_managers.specs.SessionViews;
 ghost use Rattle.session_managers.specs.SessionViews.{IsSameOpening};
 ghost use Rattle.session_managers.specs.One;
 
-use crate::acting::{Act, Call, ClientAct, Reply, is_denied};
+use crate::acting::{Act, Call, ClientAct, Got};
 use crate::managers::SessionManagers;
 use access_vectors::{Asked, Decider};
 use flask_sid::Memory;
-use manager_history::Answer;
 use session_forms::Manager;
 use std::alloc::Global;
-
-/// What a client's call got, and the policy number under which it was done or aborted.
-#[derive(Drop)]
-pub struct Acted {
-    pub answer: Answer<Reply>,
-    pub number: u32,
-}
 
 impl<'d, D: Decider> SessionManagers<'d, D> {
     /// Does a client's call of one of the managers, under its held pass or else a pass of the newest number. One under a pass
     /// below the settled number is aborted, which changes nothing but history and counts. `mark` is the client's own number of
-    /// the call. After `Memory` all is as before.
+    /// the call. What the call got and what it asked stand in the history, for `got` and `asked`. After `Memory` all is as before.
     #[inline(always)]
-    pub fn call(
-        &mut self,
-        alloc: Global,
-        client: u8,
-        mark: u32,
-        call: Call,
-    ) -> Result<Acted, Memory>
+    pub fn call(&mut self, alloc: Global, client: u8, mark: u32, call: Call) -> Result<(), Memory>
         requires formed { One.MayCall (D.decides self.old.decider) (SessionStates.place_in self.old.state (SessionStates.manager_of call)) client call }
         requires client { client < 64 }
         requires countable { self.old.state.calls + 1 < 2 ^ 64 }
-        ensures answer { IfOk result (λ acted. acted.answer ≡ (SessionStates.told_to (D.decides self.old.decider) self.old.state client call).answer) }
-        ensures number { IfOk result (λ acted. acted.number ≡ SessionStates.acting_on self.old.state client (SessionStates.manager_of call)) }
-        ensures asked { OnOk result (SessionViews.asked_of self.new.asked (SessionStates.manager_of call) ≡ (SessionStates.told_to (D.decides self.old.decider) self.old.state client call).asked) }
+        ensures told { OnOk result (SessionViews.told_of self.new.told (SessionStates.manager_of call) ≡ SessionStates.told_to (D.decides self.old.decider) self.old.state client call) }
         ensures state { OnOk result (self.new.state ≡ SessionStates.state_called (D.decides self.old.decider) self.old.state client call) }
         ensures events { let number = SessionStates.acting_on self.old.state client (SessionStates.manager_of call) in
             OnOk result (self.new.events ≡ SessionViews.events_with self.old.events (SessionStates.manager_of call) client mark number) }
@@ -48,17 +32,13 @@ impl<'d, D: Decider> SessionManagers<'d, D> {
         ensures whole { self.new.whole ≡ self.old.whole }
     {
         let manager = call.manager();
-        let number = self.acting(client, manager);
         let act = Act::Call { mark, call };
-        let Some(answer) = self
-            .changes
-            .serve(alloc, number_of(manager), ClientAct { client, act })?
-        else {
-            unreachable!()
-        };
+        self.changes
+            .serve(alloc, number_of(manager), ClientAct { client, act })?;
+        let denied = counted(self.denied, self.got(manager));
         self.calls += 1;
-        self.denied = counted(self.denied, &answer);
-        Ok(Acted { answer, number })
+        self.denied = denied;
+        Ok(())
     }
 
     /// The policy number under which a client acts on a manager.
@@ -80,10 +60,18 @@ impl<'d, D: Decider> SessionManagers<'d, D> {
         one.phase().version_at(one.acting(client))
     }
 
+    /// What the newest call of a manager got.
+    #[inline(always)]
+    pub fn got(&self, manager: Manager) -> Got<'_>
+        ensures { One.got_answer result ≡ (SessionViews.told_of self.now.told manager).answer }
+    {
+        self.changes.managers()[usize::from(number_of(manager))].last_got()
+    }
+
     /// What the newest call of a manager asked: one that was aborted nothing.
     #[inline(always)]
     pub fn asked(&self, manager: Manager) -> &[Asked]
-        ensures { result.now ≡ SessionViews.asked_of self.now.asked manager }
+        ensures { result.now ≡ (SessionViews.told_of self.now.told manager).asked }
     {
         self.changes.managers()[usize::from(number_of(manager))].last_asked()
     }
@@ -131,15 +119,11 @@ fn number_of(manager: Manager) -> u8
     }
 }
 
-/// A count of denied calls, with this answer.
+/// A count of denied calls, with one that got this.
 #[inline(always)]
-fn counted(denied: u64, answer: &Answer<Reply>) -> u64
+fn counted(denied: u64, got: Got<'_>) -> u64
     requires { denied + 1 < 2 ^ 64 }
-    ensures { result ≡ SessionStates.counted_denial (One.denial_in answer.now) denied }
+    ensures { result ≡ SessionStates.counted_denial (One.denial_in (One.got_answer got.entry)) denied }
 {
-    if is_denied(answer) {
-        denied + 1
-    } else {
-        denied
-    }
+    if got.is_denied() { denied + 1 } else { denied }
 }

@@ -11,8 +11,7 @@ mod managers;
 mod one_manager;
 mod opening;
 
-pub use acting::{Act, Call, ClientAct, Reply};
-pub use acts::Acted;
+pub use acting::{Act, Call, ClientAct, Got, Reply};
 pub use changes::Acks;
 pub use managers::SessionManagers;
 pub use one_manager::OneManager;

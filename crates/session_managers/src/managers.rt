@@ -2,7 +2,7 @@
 
 ghost use Rattle.std.specs.Prelude.{◌≡◌, IfOk, true};
 ghost use Rattle.session_managers.specs.SessionStates;
-ghost use Rattle.session_managers.specs.SessionViews.{AreOpenings, none_asked, no_events};
+ghost use Rattle.session_managers.specs.SessionViews.{AreOpenings, none_told, no_events};
 
 use crate::one_manager::OneManager;
 use crate::opening::Openings;
@@ -22,7 +22,7 @@ const MOST: u32 = 1_048_575;
 pub(crate) const MANAGERS: u8 = 3;
 
 /// The managers of a session on one thread under the coordinator of their changes, and the counts of the summary. Contracts see
-/// where the session stands by the definition of what is printed, what decides, what the newest calls asked, the histories as
+/// where the session stands by the definition of what is printed, what decides, what the newest calls got and asked, the histories as
 /// the administrator sees them, and whether each manager has the notice of the number that is proposed.
 #[derive(Drop)]
 pub struct SessionManagers<'d, D: Decider> {
@@ -57,7 +57,7 @@ impl<'d, D: Decider> SessionManagers<'d, D> {
         ensures { IfOk result (λ managed. managed ≡ record {
           state = SessionStates.opening_state openings;
           decider = decider.now;
-          asked = none_asked;
+          told = none_told;
           events = no_events;
           whole = true;
         }) }

@@ -1,19 +1,16 @@
 //! The three managers of a session as one type.
 
-ghost use Rattle.std.specs.Prelude.{◌≡◌, ◌<◌, IfOk, OnErr};
+ghost use Rattle.std.specs.Prelude.{◌≡◌, ◌<◌, OnOk, OnErr};
 ghost use Rattle.managed.specs.Seen.{IsServed};
 ghost use Rattle.session_managers.specs.One;
 
-use crate::acting::{Act, Call, ClientAct, Reply};
+use crate::acting::{Act, Call, ClientAct, Got};
 use access_vectors::{Asked, Decider, Phase};
-use file_calls::FileReply;
 use file_manager::FileCore;
 use flask_sid::Memory;
 use managed::{Managed, Plain, Serves};
-use manager_history::{Ack, Answer, NotifyFault};
-use port_calls::PortReply;
+use manager_history::{Ack, NotifyFault};
 use port_manager::PortCore;
-use process_calls::ProcessReply;
 use process_manager::ProcessCore;
 use retained_rights::{AllBits, EachBits};
 use std::alloc::Global;
@@ -56,7 +53,7 @@ impl<'d, D: Decider> OneManager<'d, D> {
     /// What the newest call asked.
     #[inline(always)]
     pub fn last_asked(&self) -> &[Asked]
-        ensures { result.now ≡ One.last_asked self.now }
+        ensures { result.now ≡ (One.last_told self.now).asked }
     {
         match self {
             OneManager::File(files) => files.last_asked(),
@@ -65,33 +62,49 @@ impl<'d, D: Decider> OneManager<'d, D> {
         }
     }
 
+    /// What the newest call got.
+    #[inline(always)]
+    pub fn last_got(&self) -> Got<'_>
+        ensures { One.got_answer result ≡ (One.last_told self.now).answer }
+    {
+        match self {
+            OneManager::File(files) => match files.last_reply() {
+                Some(reply) => Got::File(reply),
+                None => Got::Aborted,
+            },
+            OneManager::Process(processes) => match processes.last_reply() {
+                Some(reply) => Got::Process(reply),
+                None => Got::Aborted,
+            },
+            OneManager::Port(ports) => match ports.last_reply() {
+                Some(reply) => Got::Port(reply),
+                None => Got::Aborted,
+            },
+        }
+    }
+
     /// Does a client's call, which is of this manager, under its held pass or else a pass of the newest number.
     #[inline(always)]
-    fn call(
-        &mut self,
-        alloc: Global,
-        client: u8,
-        mark: u32,
-        call: Call,
-    ) -> Result<Answer<Reply>, Memory>
+    fn call(&mut self, alloc: Global, client: u8, mark: u32, call: Call) -> Result<(), Memory>
         requires may { One.MayCall (D.decides (One.decider_of self.old)) (One.place_of self.old) client call }
         requires client { client < 64 }
-        ensures done { IfOk result (One.HasCalled D.decides client mark self.old call self.new) }
+        ensures done { OnOk result (One.HasCalled D.decides client mark self.old call self.new) }
         ensures as_before { OnErr result (self.new ≡ self.old) }
         ensures served { IsServed (One.seen D.decides self.old) (One.seen D.decides self.new) }
     {
         match (self, call) {
             (OneManager::File(files), Call::File(call)) => {
-                Ok(of_files(files.call(alloc, client, mark, call)?))
+                let _got = files.call(alloc, client, mark, call)?;
             }
             (OneManager::Process(processes), Call::Process(call)) => {
-                Ok(of_processes(processes.call(alloc, client, mark, call)?))
+                let _got = processes.call(alloc, client, mark, call)?;
             }
             (OneManager::Port(ports), Call::Port(call)) => {
-                Ok(of_ports(ports.call(alloc, client, mark, call)?))
+                let _got = ports.call(alloc, client, mark, call)?;
             }
             _ => unreachable!(),
         }
+        Ok(())
     }
 
     /// A client takes a pass of the newest number, and holds it. One that holds a pass keeps that.
@@ -116,37 +129,6 @@ impl<'d, D: Decider> OneManager<'d, D> {
             OneManager::Process(processes) => processes.end(client),
             OneManager::Port(ports) => ports.end(client),
         }
-    }
-}
-
-/// An answer of the manager of files as one of the three managers'.
-#[inline(always)]
-fn of_files(answer: Answer<FileReply>) -> Answer<Reply>
-    ensures { result ≡ One.answer_of Reply.File answer }
-{
-    match answer {
-        Answer::Did(reply) => Answer::Did(Reply::File(reply)),
-        Answer::Aborted => Answer::Aborted,
-    }
-}
-
-#[inline(always)]
-fn of_processes(answer: Answer<ProcessReply>) -> Answer<Reply>
-    ensures { result ≡ One.answer_of Reply.Process answer }
-{
-    match answer {
-        Answer::Did(reply) => Answer::Did(Reply::Process(reply)),
-        Answer::Aborted => Answer::Aborted,
-    }
-}
-
-#[inline(always)]
-fn of_ports(answer: Answer<PortReply>) -> Answer<Reply>
-    ensures { result ≡ One.answer_of Reply.Port answer }
-{
-    match answer {
-        Answer::Did(reply) => Answer::Did(Reply::Port(reply)),
-        Answer::Aborted => Answer::Aborted,
     }
 }
 
@@ -199,25 +181,20 @@ impl<'d, D: Decider> Serves for OneManager<'d, D> {
 
     type Act = ClientAct;
 
-    type Outcome = Result<Option<Answer<Reply>>, Memory>;
+    type Outcome = Result<(), Memory>;
 
     ghost may = { May D.decides };
 
     ghost does = { Does D.decides };
 
     #[inline(always)]
-    fn serve(&mut self, alloc: Global, act: ClientAct) -> Result<Option<Answer<Reply>>, Memory> {
+    fn serve(&mut self, alloc: Global, act: ClientAct) -> Result<(), Memory> {
         let ClientAct { client, act } = act;
         match act {
-            Act::Call { mark, call } => Ok(Some(self.call(alloc, client, mark, call)?)),
-            Act::Begin => {
-                self.begin(client);
-                Ok(None)
-            }
-            Act::End => {
-                self.end(client);
-                Ok(None)
-            }
+            Act::Call { mark, call } => self.call(alloc, client, mark, call)?,
+            Act::Begin => self.begin(client),
+            Act::End => self.end(client),
         }
+        Ok(())
     }
 }

@@ -18,7 +18,7 @@ questions_of (Some caller) asked = Some (record { version = caller.version; aske
 
 -- what is kept of a line
 abbrev pub run_of : Shown → LineRun
-run_of one = record { line = one.outcome.line; answer = one.outcome.answer; questions = questions_of one.outcome.caller one.asked }
+run_of one = record { line = one.line; answer = one.answer; questions = questions_of one.caller one.asked }
 
 -- what lines come to, from there on: each after those above it
 abbrev pub lines_run : Decisions → SessionState → List RunLine → List LineRun

@@ -1,6 +1,7 @@
 //! What each line of a session comes to where the session is run, and what its call asks.
 #![tactic(auto)]
 
+mod copies;
 mod lines;
 mod running;
 

@@ -1,11 +1,11 @@
 //! What a line of a session comes to, and what its call asks, kept.
 
 ghost use Rattle.std.specs.Prelude.{◌≡◌, IfOk};
-ghost use Rattle.session_questions.specs.LineRuns;
 
+use crate::copies;
 use access_vectors::Asked;
 use flask_sid::{Memory, Rows};
-use session_runner::{Caller, LineAnswer, LineOutcome, Recorder};
+use session_runner::{Called, Caller, LineAnswer, Recorder};
 use std::alloc::Global;
 
 /// What a client's call asked, with the answers, and the version under which the client acted, counted from 0.
@@ -40,42 +40,39 @@ impl Recorder<Rows<LineRun>> for Keeper {
 
     ghost stops = { λ keeper out one later stop. Unit {0} };
 
+    fn take_call(&mut self, called: Called<'_>, out: &mut Rows<LineRun>) -> Result<(), Memory> {
+        let Caller {
+            client,
+            manager,
+            number,
+            version,
+        } = called.caller;
+        let got = copies::answer(self.alloc, called.got)?;
+        let asked = kept(self.alloc, called.asked)?;
+        out.push(LineRun {
+            line: called.line,
+            answer: LineAnswer::Replied {
+                client,
+                manager,
+                number,
+                got,
+            },
+            questions: Some(LineQuestions { version, asked }),
+        })
+    }
+
     fn take(
         &mut self,
-        outcome: LineOutcome,
-        asked: &[Asked],
+        line: u32,
+        answer: LineAnswer,
         out: &mut Rows<LineRun>,
     ) -> Result<(), Memory> {
-        let LineOutcome {
-            line,
-            answer,
-            caller,
-        } = outcome;
-        let questions = questions_of(self.alloc, caller, asked)?;
         out.push(LineRun {
             line,
             answer,
-            questions,
+            questions: None,
         })
     }
-}
-
-/// What a caller's call asked, kept; nothing where there is no caller.
-fn questions_of(
-    alloc: Global,
-    caller: Option<Caller>,
-    asked: &[Asked],
-) -> Result<Option<LineQuestions>, Memory>
-    ensures { IfOk result (λ questions. questions ≡ LineRuns.questions_of caller asked.now) }
-{
-    let Some(caller) = caller else {
-        return Ok(None);
-    };
-    let asked = kept(alloc, asked)?;
-    Ok(Some(LineQuestions {
-        version: caller.version,
-        asked,
-    }))
 }
 
 /// A list of these questions.

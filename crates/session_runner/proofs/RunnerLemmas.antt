@@ -20,10 +20,13 @@ use Rattle.session_text.specs.Sessions.{IsDeclared, IsDeclaredProcess, IsRun}
 use Rattle.session_text.specs.declared.session.Run.{Run}
 use Rattle.session_text.specs.declared.session.Run.TheVariants as run
 use Rattle.session_text.specs.declared.session.RunLine.{RunLine}
-use Rattle.session_managers.specs.SessionStates.{SessionState, refusal_of, state_notified, counted_change, is_complete, ack_all_of, force_all_of}
+use Rattle.session_managers.specs.One.{MayCall}
+use Rattle.session_managers.specs.declared.acting.Call.{Call}
+use Rattle.session_managers.specs.declared.acting.Call.TheVariants as any
+use Rattle.session_managers.specs.SessionStates.{SessionState, place_in, manager_of, refusal_of, state_notified, counted_change, is_complete, ack_all_of, force_all_of}
 use Rattle.session_managers.specs.SessionViews.{HasClients, IsSameOpening}
-use Rattle.session_runner.specs.Runs.{state_after, caller_of, IsOfClients}
-use Rattle.session_runner.specs.Underway.{MayRun}
+use Rattle.session_runner.specs.Runs.{state_after}
+use Rattle.session_runner.specs.Underway.{MayRun, IsCall}
 
 -- what holds of each line holds of the lines behind the first
 pub all_behind : {X : Type 0} (P : X → Type 0) (items rest : List X) (x : X) → items ≡ x ∷ rest → All P items → All P rest
@@ -97,7 +100,7 @@ named_of d state clients (call.Give slot client target) same is = omega arith
 named_of d state clients (call.Relabel path sid) same is = is
 named_of d state clients said same is = tt
 
-pub call_formed : (d : Decisions) (state : FileState) (clients client : ℕ) (said : FileCall) → length state.opening.clients ≡ clients → IsRun (λ sid. IsTrue (d.known sid)) clients (run.File client said) → file.IsFormed d state client said
+call_formed : (d : Decisions) (state : FileState) (clients client : ℕ) (said : FileCall) → length state.opening.clients ≡ clients → IsRun (λ sid. IsTrue (d.known sid)) clients (run.File client said) → file.IsFormed d state client said
 call_formed d state clients client said same (below, ranges, declared) =
     record { caller_is = omega arith; ranges = ranges; named = named_of d state clients said same declared }
 
@@ -105,11 +108,11 @@ process_named : (d : Decisions) (said : ProcessCall) → IsDeclaredProcess (λ s
 process_named d (process_call.Exec pid sid) is = is
 process_named d said is = tt
 
-pub process_formed : (d : Decisions) (state : ProcessState) (clients client : ℕ) (said : ProcessCall) → length state.opening.clients ≡ clients → IsRun (λ sid. IsTrue (d.known sid)) clients (run.Process client said) → process.IsFormed d state client said
+process_formed : (d : Decisions) (state : ProcessState) (clients client : ℕ) (said : ProcessCall) → length state.opening.clients ≡ clients → IsRun (λ sid. IsTrue (d.known sid)) clients (run.Process client said) → process.IsFormed d state client said
 process_formed d state clients client said same (below, ranges, declared) =
     record { caller_is = omega arith; ranges = ranges; named = process_named d said declared }
 
-pub port_formed : (d : Decisions) (state : PortState) (clients client : ℕ) (said : PortCall) → length state.opening.clients ≡ clients → IsRun (λ sid. IsTrue (d.known sid)) clients (run.Port client said) → port.IsFormed d state client said
+port_formed : (d : Decisions) (state : PortState) (clients client : ℕ) (said : PortCall) → length state.opening.clients ≡ clients → IsRun (λ sid. IsTrue (d.known sid)) clients (run.Port client said) → port.IsFormed d state client said
 port_formed d state clients client said same (below, ranges) = record { caller_is = omega arith; ranges = ranges }
 
 -- the counts have room for one more
@@ -130,14 +133,14 @@ may_more d d' clients state state' items rest line may is same state_is =
       changes = omega (arith, may.changes, count, rw (← after) at (changes_after d state line.run));
     }
 
--- the caller of a line that may run is one of the clients
-pub caller_within : (known : ℕ → Type 0) (clients : ℕ) (state : SessionState) (asks : Run) → IsRun known clients asks → IsOfClients clients (caller_of state asks)
-caller_within known clients state (run.File client call) is = is.0
-caller_within known clients state (run.Process client call) is = is.0
-caller_within known clients state (run.Port client call) is = is.0
-caller_within known clients state (run.Begin client of) is = tt
-caller_within known clients state (run.End client of) is = tt
-caller_within known clients state (run.Notify version) is = tt
-caller_within known clients state (run.Update most) is = tt
-caller_within known clients state run.Ack is = tt
-caller_within known clients state run.Force is = tt
+-- a call that may run is formed, and its client is one of the clients
+pub formed_call : (d : Decisions) (state : SessionState) (clients client : ℕ) (asks : Call) → HasClients clients state → IsCall (λ sid. IsTrue (d.known sid)) clients client asks
+    → MayCall d (place_in state (manager_of asks)) client asks
+formed_call d state clients client (any.File said) has is = call_formed d state.files.state clients client said has.files is
+formed_call d state clients client (any.Process said) has is = process_formed d state.processes.state clients client said has.processes is
+formed_call d state clients client (any.Port said) has is = port_formed d state.ports.state clients client said has.ports is
+
+pub call_within : (known : ℕ → Type 0) (clients client : ℕ) (asks : Call) → IsCall known clients client asks → client < clients
+call_within known clients client (any.File said) is = is.0
+call_within known clients client (any.Process said) is = is.0
+call_within known clients client (any.Port said) is = is.0

@@ -1,7 +1,7 @@
 -- A session that is opened.
 use Rattle.std.specs.Prelude.{◌≡◌, false, length}
 use Rattle.access_vectors.specs.Decisions.{Decisions}
-use Rattle.session_managers.specs.SessionViews.{none_asked}
+use Rattle.session_managers.specs.SessionViews.{none_told}
 use Rattle.session_text.specs.declared.session.SessionParts.{SessionParts}
 use Rattle.session_runner.specs.Runners.{Running}
 use Rattle.session_runner.specs.Runs.{first_state}
@@ -10,7 +10,7 @@ use Rattle.session_runner.specs.declared.opening.Opened.{Opened}
 
 -- a runner before the first line of a session
 abbrev pub first_runner : {Decider : Type 0} → Decider → SessionParts → Running Decider
-first_runner decider session = record { state = first_state session; decider = decider; asked = none_asked; clients = length session.clients; stopped = false }
+first_runner decider session = record { state = first_state session; decider = decider; told = none_told; clients = length session.clients; stopped = false }
 
 -- a session was opened on a decider: the runner stands before its first line, and its lines may run
 pub record IsOpened {Decider : Type 0} (decides : Decider → Decisions) (decider : Decider) (session : SessionParts) (opened : Opened Decider) : Type 0 where

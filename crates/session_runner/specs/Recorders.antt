@@ -7,6 +7,10 @@ abbrev pub TakesAll : {E W : Type 0} → (E → W → Shown → E → W → Type
 TakesAll takes recorder out [] after later = (after ≡ recorder) × (later ≡ out)
 TakesAll {E = E} {W = W} takes recorder out (one ∷ more) after later = (mid : E) × (now : W) × takes recorder out one mid now × TakesAll takes mid now more after later
 
+-- the run stopped before a line, for want of memory, or at it
+abbrev pub StopsBeforeOrAt : {E W S : Type 0} → (E → W → Shown → W → S → Type 0) → (S → Type 0) → E → W → Shown → W → S → Type 0
+StopsBeforeOrAt stops wants recorder out one later stop = ((later ≡ out) × wants stop) ⊎ stops recorder out one later stop
+
 -- the first were taken, and then the run stopped: before the next one, for want of memory, or at it
 abbrev pub StopsAt : {E W S : Type 0} → (E → W → Shown → E → W → Type 0) → (E → W → Shown → W → S → Type 0) → (S → Type 0) → E → W → List Shown → W → S → Type 0
 StopsAt takes stops wants recorder out [] later stop = ⊥

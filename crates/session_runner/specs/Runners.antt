@@ -2,22 +2,22 @@
 use Rattle.std.specs.Prelude.{◌≡◌, ◌≤◌, ℕ, Bool, true, false, refl}
 use Rattle.std.specs.Coded.{Coded, code_by, coded×, coded_ℕ, coded_bool}
 use Rattle.session_managers.specs.SessionStates.{SessionState}
-use Rattle.session_managers.specs.SessionViews.{Standing, LastAsked, HasClients, state_code, asked_code}
+use Rattle.session_managers.specs.SessionViews.{Standing, LastTold, HasClients, state_code, all_told_code}
 
--- where the session stands, what decides, what the newest calls asked, how many clients there are, and whether memory was wanting
+-- where the session stands, what decides, what the newest calls got and asked, how many clients there are, and whether memory was wanting
 pub record Running (Decider : Type 0) : Type 0 where
   pub state : SessionState
   pub decider : Decider
-  pub asked : LastAsked
+  pub told : LastTold
   pub clients : ℕ
   pub stopped : Bool
 
 -- how a proof tells two of them apart: by the fields
 abbrev pub running_code : {Decider : Type 0} → Coded Decider → Coded (Running Decider)
 running_code {Decider = Decider} code =
-    code_by (SessionState × (Decider × (LastAsked × (ℕ × Bool)))) (coded× state_code (coded× code (coded× asked_code (coded× coded_ℕ coded_bool))))
-    (λ running. (running.state, (running.decider, (running.asked, (running.clients, running.stopped)))))
-    (λ p. record { state = p.0; decider = p.1.0; asked = p.1.1.0; clients = p.1.1.1.0; stopped = p.1.1.1.1 })
+    code_by (SessionState × (Decider × (LastTold × (ℕ × Bool)))) (coded× state_code (coded× code (coded× all_told_code (coded× coded_ℕ coded_bool))))
+    (λ running. (running.state, (running.decider, (running.told, (running.clients, running.stopped)))))
+    (λ p. record { state = p.0; decider = p.1.0; told = p.1.1.0; clients = p.1.1.1.0; stopped = p.1.1.1.1 })
     (λ _. refl)
 
 -- the managers were opened with so many clients, which are few, and unless memory was wanting each has its notice

@@ -1,5 +1,5 @@
 -- What each line of a session comes to: the lines in the text's order, run on the plain managers.
-use Rattle.std.specs.Prelude.{ℕ, ◌+◌, ◌<◌, List, [], ◌∷◌, map, Option, Some, None, IfSome, Result, Ok, Err}
+use Rattle.std.specs.Prelude.{ℕ, ◌+◌, List, [], ◌∷◌, map, Option, Some, None, Result, Ok, Err}
 use Rattle.access_vectors.specs.Decisions.{Decisions}
 use Rattle.access_vectors.specs.Phases.{number_of}
 use Rattle.access_vectors.specs.declared.asked.Asked.{Asked}
@@ -9,7 +9,10 @@ use Rattle.change_protocol.specs.declared.answers.NotifyAllFault.{NotifyAllFault
 use Rattle.session_forms.specs.declared.run_forms.Manager.{Manager}
 use Rattle.session_forms.specs.declared.run_forms.Manager.TheVariants as manager
 use Rattle.session_managers.specs.SessionStates.{SessionState, opening_state, manager_of, told_to, acting_on, version_on, state_called, state_begun, state_ended, refusal_of, state_notified, state_updated, left_on, ack_all_of, all_said, state_acknowledged, force_all_of, all_forced, state_forced}
-use Rattle.session_managers.specs.SessionViews.{LastAsked, asked_of}
+use Rattle.session_managers.specs.SessionViews.{LastTold, told_of}
+use Rattle.manager_history.specs.declared.answers.Answer.{Answer}
+use Rattle.session_managers.specs.One.{got_answer}
+use Rattle.session_managers.specs.declared.acting.Reply.{Reply}
 use Rattle.session_managers.specs.declared.acting.Call.{Call}
 use Rattle.session_managers.specs.declared.acting.Call.TheVariants as call
 use Rattle.session_managers.specs.declared.opening.Openings.{Openings}
@@ -19,10 +22,10 @@ use Rattle.session_text.specs.declared.session.Run.TheVariants as run
 use Rattle.session_text.specs.declared.session.RunLine.{RunLine}
 use Rattle.session_text.specs.declared.session.SessionParts.{SessionParts}
 use Rattle.session_runner.specs.declared.opening.FirstObjects.{FirstObjects}
+use Rattle.session_runner.specs.declared.outcomes.Called.{Called}
 use Rattle.session_runner.specs.declared.outcomes.Caller.{Caller}
 use Rattle.session_runner.specs.declared.outcomes.LineAnswer.{LineAnswer}
 use Rattle.session_runner.specs.declared.outcomes.LineAnswer.TheVariants as answer
-use Rattle.session_runner.specs.declared.outcomes.LineOutcome.{LineOutcome}
 
 -- what the managers are opened with: a client acts as its context, and the root and ports without a line have theirs
 abbrev pub openings_with : FirstObjects → List ClientLine → Openings
@@ -95,26 +98,31 @@ caller_of state (run.Process client asks) = Some (caller_at state client manager
 caller_of state (run.Port client asks) = Some (caller_at state client manager.Port)
 caller_of state asks = None
 
--- what a caller's call asked, by what the newest calls asked
-abbrev pub asked_for : LastAsked → Option Caller → List Asked
-asked_for asked None = []
-asked_for asked (Some caller) = asked_of asked caller.manager
-
--- the caller, where there is one, is one of so many clients
-abbrev pub IsOfClients : ℕ → Option Caller → Type 0
-IsOfClients clients caller = IfSome caller (λ caller. caller.client < clients)
-
--- what a line comes to, with its number and its caller
-abbrev pub outcome_on : Decisions → SessionState → RunLine → LineOutcome
-outcome_on d state line = record { line = line.line; answer = answer_on d state line.run; caller = caller_of state line.run }
-
--- what is shown of a line: what it comes to, and what it asks
+-- what is shown of a line: its number, what it comes to, who acts in it where it is a client's call, and what it asks
 pub record Shown : Type 0 where
-  pub outcome : LineOutcome
+  pub line : ℕ
+  pub answer : LineAnswer
+  pub caller : Option Caller
   pub asked : List Asked
 
 abbrev pub line_shown : Decisions → SessionState → RunLine → Shown
-line_shown d state line = record { outcome = outcome_on d state line; asked = asked_by d state line.run }
+line_shown d state line = record { line = line.line; answer = answer_on d state line.run; caller = caller_of state line.run; asked = asked_by d state line.run }
+
+-- what is shown of a caller's call, by what it got and asked
+abbrev pub shown_told : ℕ → Caller → Answer Reply → List Asked → Shown
+shown_told line caller got asked = record { line = line; answer = answer.Replied caller.client caller.manager caller.number got; caller = Some caller; asked = asked }
+
+-- where that is lent from a history
+abbrev pub shown_call : Called → Shown
+shown_call called = shown_told called.line called.caller (got_answer called.got) called.asked.now
+
+-- where it is what the newest call of the caller's manager got and asked
+abbrev pub shown_newest : LastTold → ℕ → Caller → Shown
+shown_newest told line caller = shown_told line caller (told_of told caller.manager).answer (told_of told caller.manager).asked
+
+-- what is shown of a line that is no call
+abbrev pub shown_other : ℕ → LineAnswer → Shown
+shown_other line said = record { line = line; answer = said; caller = None; asked = [] }
 
 -- what is shown of lines, from there on: of each after those above it
 abbrev pub lines_shown : Decisions → SessionState → List RunLine → List Shown

@@ -9,6 +9,6 @@ mod runner;
 mod running;
 
 pub use opening::{FirstObjects, Opened, open, openings_of};
-pub use outcomes::{Caller, LineAnswer, LineOutcome};
+pub use outcomes::{Called, Caller, LineAnswer};
 pub use recorder::Recorder;
 pub use runner::Runner;

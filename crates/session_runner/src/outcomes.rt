@@ -1,9 +1,10 @@
 //! What a line of a session comes to.
 
+use access_vectors::Asked;
 use change_protocol::NotifyAllFault;
 use manager_history::Answer;
 use session_forms::Manager;
-use session_managers::{Acks, Reply};
+use session_managers::{Acks, Got, Reply};
 
 /// What a line came to: a client's call got this reply under a policy number, or was aborted; a client holds a pass of that number
 /// or gave it back; or what the administrator was told.
@@ -39,10 +40,11 @@ pub struct Caller {
     pub version: u8,
 }
 
-/// What the line of a number came to, and who acted in it, where it is a client's call.
-#[derive(Drop)]
-pub struct LineOutcome {
+/// The call of the line of a number: who acted in it, and what it got and asked, lent from the manager's history.
+#[derive(Clone, Copy, Debug)]
+pub struct Called<'m> {
     pub line: u32,
-    pub answer: LineAnswer,
-    pub caller: Option<Caller>,
+    pub caller: Caller,
+    pub got: Got<'m>,
+    pub asked: &'m [Asked],
 }

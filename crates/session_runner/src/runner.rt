@@ -1,32 +1,32 @@
 //! The runner of a session's lines.
 
-ghost use Rattle.std.specs.Prelude.{◌≡◌, ◌+◌, ◌<◌, ◌≤◌, ◌^◌, true, false, IsTrue, IsErr, IfOk, OnOk, OnErr};
-ghost use Rattle.session_managers.specs.SessionStates.{opening_state};
-ghost use Rattle.session_managers.specs.SessionViews.{AreOpenings, HasClients, none_asked};
+ghost use Rattle.std.specs.Prelude.{◌≡◌, ◌+◌, ◌<◌, ◌≤◌, ◌^◌, false, None, IsTrue, is_err, IfOk, OnOk};
+ghost use Rattle.session_managers.specs.SessionStates.{opening_state, manager_of, state_called, told_to};
+ghost use Rattle.session_managers.specs.SessionViews.{AreOpenings, HasClients, none_told, told_of};
 ghost use Rattle.session_text.specs.Sessions.{IsRun};
 ghost use Rattle.session_runner.specs.Runs;
 ghost use Rattle.session_runner.specs.Runners.{IsSameRun};
+ghost use Rattle.session_runner.specs.Underway.{IsCall};
 
 use crate::answering;
-use crate::outcomes::{Caller, LineAnswer, LineOutcome};
-use access_vectors::{Asked, Decider};
+use crate::outcomes::{Called, Caller, LineAnswer};
+use access_vectors::Decider;
 use flask_sid::Memory;
-use session_forms::Manager;
-use session_managers::{Openings, SessionManagers};
-use session_text::{Run, RunLine};
+use session_managers::{Call, Openings, SessionManagers};
+use session_text::Run;
 use std::alloc::Global;
 use std::marker::Model;
 use std::sync::Wait;
 
 /// The managers of a session on one thread, and how many clients it has. Contracts see where the session stands, what decides,
-/// what the newest calls asked, the number of clients, and whether memory was wanting. The type keeps that the managers were opened
+/// what the newest calls got and asked, the number of clients, and whether memory was wanting. The type keeps that the managers were opened
 /// with these clients, of whom there are at most 62, and that each manager has its notice.
 #[derive(Drop)]
 pub struct Runner<'d, D: Decider> {
     alloc: Global,
     managed: SessionManagers<'d, D>,
     clients: usize,
-    stopped: bool,
+    pub(crate) stopped: bool,
 }
 
 impl<'d, D: Decider> Model for Runner<'d, D> {
@@ -39,7 +39,7 @@ impl<'d, D: Decider> Model for Runner<'d, D> {
     ghost view = { λ runner. record {
       state = runner.managed.state;
       decider = runner.managed.decider;
-      asked = runner.managed.asked;
+      told = runner.managed.told;
       clients = runner.clients;
       stopped = runner.stopped;
     } };
@@ -61,7 +61,7 @@ impl<'d, D: Decider> Runner<'d, D> {
         ensures { IfOk result (λ runner. runner ≡ record {
           state = opening_state openings;
           decider = decider.now;
-          asked = none_asked;
+          told = none_told;
           clients = clients;
           stopped = false;
         }) }
@@ -75,85 +75,65 @@ impl<'d, D: Decider> Runner<'d, D> {
         })
     }
 
-    /// Who acts in a line, where it is a client's call.
+    /// Does a client's call, which is the line of a number, and says who acted in it.
+    #[tactic(auto, using(crate::proofs::RunnerLemmas::call_within))]
     #[inline(always)]
-    fn caller_of(&self, line: &RunLine) -> Option<Caller>
-        requires { IsRun (λ sid. IsTrue ((D.decides self.now.decider).known sid)) self.now.clients line.now.run }
-        ensures { result ≡ Runs.caller_of self.now.state line.now.run }
+    pub(crate) fn call(&mut self, line: u32, client: u8, call: Call) -> Result<Caller, Memory>
+        requires going { self.old.stopped ≡ false }
+        requires formed { IsCall (λ sid. IsTrue ((D.decides self.old.decider).known sid)) self.old.clients client call }
+        requires countable { self.old.state.calls + 1 < 2 ^ 64 }
+        ensures caller { IfOk result (λ caller. caller ≡ Runs.caller_at self.old.state client (manager_of call)) }
+        ensures told { OnOk result (told_of self.new.told (manager_of call) ≡ told_to (D.decides self.old.decider) self.old.state client call) }
+        ensures state { OnOk result (self.new.state ≡ state_called (D.decides self.old.decider) self.old.state client call) }
+        ensures same { IsSameRun self.old self.new }
+        ensures stopped { self.new.stopped ≡ is_err result }
     {
-        let (client, manager) = match &line.run {
-            Run::File { client, call: _ } => (*client, Manager::File),
-            Run::Process { client, call: _ } => (*client, Manager::Process),
-            Run::Port { client, call: _ } => (*client, Manager::Port),
-            _ => return None,
-        };
-        Some(Caller {
+        let manager = call.manager();
+        let caller = Caller {
             client,
             manager,
             number: self.managed.acting(client, manager),
             version: self.managed.acting_version(client, manager),
-        })
+        };
+        let done = self.managed.call(self.alloc, client, line, call);
+        self.stopped = done.is_err();
+        done?;
+        Ok(caller)
     }
 
-    /// Does what a line asks, for the run of an `E`. After `Memory` it answers nothing but `Memory`.
+    /// What a caller's call, the newest of its manager, got and asked.
     #[inline(always)]
-    fn answer<R: Wait, E>(&mut self, rt: &R, line: RunLine) -> Result<LineAnswer, Memory>
-        requires formed { IsRun (λ sid. IsTrue ((D.decides self.old.decider).known sid)) self.old.clients line.run }
-        requires calls { self.old.state.calls + 1 < 2 ^ 64 }
-        requires changes { self.old.state.changes + 1 < 2 ^ 64 }
-        ensures answer { IfOk result (λ answer. answer ≡ Runs.answer_on (D.decides self.old.decider) self.old.state line.run) }
-        ensures state { OnOk result (self.new.state ≡ Runs.state_after (D.decides self.old.decider) self.old.state line.run) }
-        ensures asked { OnOk result (Runs.asked_for self.new.asked (Runs.caller_of self.old.state line.run) ≡ Runs.asked_by (D.decides self.old.decider) self.old.state line.run) }
-        ensures same { IsSameRun self.old self.new }
-        ensures stopped { OnErr result (self.new.stopped ≡ true) }
-        ensures stays { self.old.stopped ≡ true → IsErr result }
+    pub(crate) fn called(&self, line: u32, caller: Caller) -> Called<'_>
+        ensures { Runs.shown_call result ≡ Runs.shown_newest self.now.told line caller }
     {
-        if self.stopped {
-            return Err(Memory);
+        Called {
+            line,
+            caller,
+            got: self.managed.got(caller.manager),
+            asked: self.managed.asked(caller.manager),
         }
-        let answer = answering::answer::<R, D, E>(
+    }
+
+    /// Does what a line asks that is no client's call.
+    pub(crate) fn answer<R: Wait>(&mut self, rt: &R, run: Run) -> Result<LineAnswer, Memory>
+        requires going { self.old.stopped ≡ false }
+        requires no_call { Runs.caller_of self.old.state run ≡ None }
+        requires formed { IsRun (λ sid. IsTrue ((D.decides self.old.decider).known sid)) self.old.clients run }
+        requires changes { self.old.state.changes + 1 < 2 ^ 64 }
+        ensures answer { IfOk result (λ answer. answer ≡ Runs.answer_on (D.decides self.old.decider) self.old.state run) }
+        ensures state { OnOk result (self.new.state ≡ Runs.state_after (D.decides self.old.decider) self.old.state run) }
+        ensures same { IsSameRun self.old self.new }
+        ensures stopped { self.new.stopped ≡ is_err result }
+    {
+        let answer = answering::answer::<R, D>(
             rt,
             self.alloc,
             &mut self.managed,
             self.clients,
-            line,
+            run,
         );
         self.stopped = answer.is_err();
         answer
-    }
-
-    /// Does what a line asks, for the run of an `E`, and says who acted in it. After `Memory` it answers nothing but `Memory`.
-    #[inline(always)]
-    pub fn act<R: Wait, E>(&mut self, rt: &R, line: RunLine) -> Result<LineOutcome, Memory>
-        requires formed { IsRun (λ sid. IsTrue ((D.decides self.old.decider).known sid)) self.old.clients line.run }
-        requires calls { self.old.state.calls + 1 < 2 ^ 64 }
-        requires changes { self.old.state.changes + 1 < 2 ^ 64 }
-        ensures outcome { IfOk result (λ outcome. outcome ≡ Runs.outcome_on (D.decides self.old.decider) self.old.state line) }
-        ensures state { OnOk result (self.new.state ≡ Runs.state_after (D.decides self.old.decider) self.old.state line.run) }
-        ensures asked { OnOk result (Runs.asked_for self.new.asked (Runs.caller_of self.old.state line.run) ≡ Runs.asked_by (D.decides self.old.decider) self.old.state line.run) }
-        ensures same { IsSameRun self.old self.new }
-        ensures stopped { OnErr result (self.new.stopped ≡ true) }
-        ensures stays { self.old.stopped ≡ true → IsErr result }
-    {
-        let caller = self.caller_of(&line);
-        let number = line.line;
-        let answer = self.answer::<R, E>(rt, line)?;
-        Ok(LineOutcome {
-            line: number,
-            answer,
-            caller,
-        })
-    }
-
-    /// What the newest call of a caller's manager asked; nothing where there is no caller.
-    #[inline(always)]
-    pub fn asked(&self, caller: Option<Caller>) -> &[Asked]
-        ensures { result.now ≡ Runs.asked_for self.now.asked caller }
-    {
-        match caller {
-            None => &[],
-            Some(caller) => self.managed.asked(caller.manager),
-        }
     }
 
     /// The counts of the summary: calls, calls denied, changes complete.

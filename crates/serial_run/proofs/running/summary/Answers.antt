@@ -8,6 +8,9 @@ use Rattle.serial_run.proofs.running.summary.Goals as goal
 pub returns-in_err-runner-clause-err : goal.returns-in_err-runner-clause-err
 returns-in_err-runner-clause-err g c = on_err_always _ _ (nothing_put (g.K.Sink.written c.args.sink.now) _)
 
+pub returns-in_err-run_lines-clause-err : goal.returns-in_err-run_lines-clause-err
+returns-in_err-run_lines-clause-err g c = on_err_always _ _ (nothing_put (g.K.Sink.written c.args.sink.now) _)
+
 pub returns-clause-ok : goal.returns-clause-ok
 returns-clause-ok g c =
     let opened = c.in_ok-runner.field-0 in

@@ -5,11 +5,7 @@ pub returns-in_err-put_answer-clause-stopped : goal.returns-in_err-put_answer-cl
 returns-in_err-put_answer-clause-stopped g c =
     stops_for_memory g.K.Sink.written g.K.Sink.faults c.args.self.now c.args.sink.now _ c.from_residual.result c.from_residual.ensures.1
 
-pub returns-in_err-log_call-clause-stopped : goal.returns-in_err-log_call-clause-stopped
-returns-in_err-log_call-clause-stopped g c =
-    stops_for_memory g.K.Sink.written g.K.Sink.faults c.args.self.now c.args.sink.now _ c.from_residual-in_err-log_call.result c.from_residual-in_err-log_call.ensures.1
-
 pub returns-clause-stopped : goal.returns-clause-stopped
 returns-clause-stopped g c =
     stops_at_line g.K.Sink.written g.K.Sink.faults c.args.self.now c.args.sink.now c.put_next.new.sink _ c.put_next.result c.put_answer.new.out
-    c.in_ok-put_answer.ensures c.put_next.ensures.err c.put_next.ensures.cause
+    c.in_ok-put_answer.ensures.ok c.put_next.ensures.err c.put_next.ensures.cause

@@ -1,5 +1,5 @@
 use Rattle.std.proofs.Common.{refl, arith}
-use Rattle.managed.specs.Posts.{last_asked}
+use Rattle.managed.specs.Posts.{last_asked, last_reply}
 use Rattle.session_managers.proofs.OpenedLemmas.{opened_led}
 use Rattle.session_managers.proofs.managers.SessionManagers.new.Goals as goal
 
@@ -39,7 +39,7 @@ invariant_of-result g c =
     )
 
 pub returns : goal.returns
-unfolding last_asked
+unfolding last_asked last_reply
 returns g c =
     rw (
       c.new-5.ensures,

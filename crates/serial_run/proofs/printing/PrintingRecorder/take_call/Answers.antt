@@ -1,0 +1,15 @@
+use Rattle.serial_run.proofs.PrintingLemmas.{stops_at_line, stops_for_memory}
+use Rattle.serial_run.proofs.printing.PrintingRecorder.take_call.Goals as goal
+
+pub returns-in_err-put_call-clause-stopped : goal.returns-in_err-put_call-clause-stopped
+returns-in_err-put_call-clause-stopped g c =
+    stops_for_memory g.K.Sink.written g.K.Sink.faults c.args.self.now c.args.sink.now _ c.from_residual.result c.from_residual.ensures.1
+
+pub returns-in_err-log_call-clause-stopped : goal.returns-in_err-log_call-clause-stopped
+returns-in_err-log_call-clause-stopped g c =
+    stops_for_memory g.K.Sink.written g.K.Sink.faults c.args.self.now c.args.sink.now _ c.from_residual-in_err-log_call.result c.from_residual-in_err-log_call.ensures.1
+
+pub returns-clause-stopped : goal.returns-clause-stopped
+returns-clause-stopped g c =
+    stops_at_line g.K.Sink.written g.K.Sink.faults c.args.self.now c.args.sink.now c.put_next.new.sink _ c.put_next.result c.put_call.new.out
+    c.in_ok-put_call.ensures.ok c.put_next.ensures.err c.put_next.ensures.cause
