@@ -16,7 +16,7 @@ use Rattle.managed.specs.declared.managed.Event.{Event}
 use Rattle.managed.specs.declared.managed.Event.TheVariants.{Acknowledgement}
 use Rattle.managed.specs.declared.managed.Shown.{Shown}
 use Rattle.security_server.specs.Numbering.{ServerView, is_in}
-use Rattle.change_protocol.specs.Changes.{Led, AreAll, IsLed, IsAskedUnless, phase_at, said_of, is_kept, ack_all_answer, phase_after}
+use Rattle.change_protocol.specs.Changes.{Led, AreAll, IsLed, IsAskedUnless, HasAskedAll, phase_at, said_of, is_kept, ack_all_answer, phase_after}
 use Rattle.change_protocol.specs.declared.answers.Said.{Said}
 use Rattle.change_protocol.specs.declared.answers.AckAll.{AckAll}
 use Rattle.change_protocol.specs.declared.answers.AckAll.TheVariants as acking
@@ -188,40 +188,34 @@ module _ {Decider Manager : Type 0} (decides : Decider → Decisions) (seen : Ma
       let at : (seen x).phase ≡ phase_at (Pending number old new) server.receipts reached place = (led.placed place x is).phase ∙ ap (λ (p : Phase). phase_at p server.receipts reached place) pending in
       rw (here, out) at at
 
-  pub asked_all : (was now : Led Decider Manager) (said : List Said) (answer : AckAll) → IsReady seen was → IsLed decides seen was
+  pub asked_all : (same : Manager → Manager → Type 0) (was now : Led Decider Manager) (before said : List Said) (answer : AckAll) → IsReady seen was
       → ((given : Given) → AskStep forced (length was.managers) (stand_of was.server) given (stand_of now.server) → Step versions (length was.managers) (stand_of was.server) run given (stand_of now.server))
-      → answer ≡ ack_all_answer was.server.phase said
-      → (is_pending was.server.phase ≡ false → now ≡ was)
-      → (is_pending was.server.phase ≡ true → (place : ℕ) → AreAll (IsAskedUnless seen forced (is_in was.server.receipts place)) (slice_get was.managers place) (slice_get now.managers place) (slice_get said place))
-      → length now.managers ≡ length was.managers
-      → (answer ≡ acking.Waiting → (place : ℕ) → IfSome (slice_get said place) (λ one. is_in now.server.receipts place ≡ is_kept one))
-      → now.server.phase ≡ phase_after answer was.server.phase
-      → now.server.decider ≡ was.server.decider → now.server.most ≡ was.server.most → now.reached ≡ was.reached
+      → HasAskedAll decides seen same forced was now before said answer
       → HasActed seen versions run was now
-  asked_all was now said answer ready led so answer_is idle asked many receipts_are phase decider most reached = go was.server.phase refl
+  asked_all same was now before said answer ready so round = go was.server.phase refl
     where
       go : (p : Phase) → was.server.phase ≡ p → HasActed seen versions run was now
       go (Settled number version) at =
-          let same = idle (ap is_pending at) in
-          still seen versions run was now ready same (λ step. so (λ _. []) (subst (λ (q : Phase). AskStep forced (length was.managers) (stand_of (record was.server { phase = q })) (λ _. []) (stand_of now.server)) (sym at)
-          (λ place below. refl, ap (λ (led : Led Decider Manager). stand_of led.server) same ∙ ap (λ (q : Phase). stand_of (record was.server { phase = q })) at)))
+          let stays = round.idle (ap is_pending at) in
+          still seen versions run was now ready stays (λ step. so (λ _. []) (subst (λ (q : Phase). AskStep forced (length was.managers) (stand_of (record was.server { phase = q })) (λ _. []) (stand_of now.server)) (sym at)
+          (λ place below. refl, ap (λ (led : Led Decider Manager). stand_of led.server) stays ∙ ap (λ (q : Phase). stand_of (record was.server { phase = q })) at)))
       go (Pending number old new) at =
           let pending : is_pending was.server.phase ≡ true = ap is_pending at in
-          let each = asked pending in
+          let each = round.asked pending in
           let got = picked seen (λ place x y. (one : Said) × (slice_get said place ≡ Some one) × IsAskedUnless seen forced (is_in was.server.receipts place) x y one)
           (λ place. IsAskedTo forced number (is_in was.server.receipts place) (slice_get said place)) was.managers now.managers
           (λ place. both_all (IsAskedUnless seen forced (is_in was.server.receipts place)) _ _ _ (each place)) ready.told
           (λ place x y is one turns told. asked_where seen forced (is_in was.server.receipts place) number old new x y (slice_get said place) one.0 one.1
-          (λ out. stands was.server number old new was.reached place was.managers x at led (ready.reached pending) is out) one.2 turns told) in
-          let end = ending number old new (length was.managers) was.server.receipts got.given said now.server answer (list_all is_kept said) refl (answer_is ∙ ap (λ (q : Phase). ack_all_answer q said) at)
-          (same_length (λ place. IsAskedUnless seen forced (is_in was.server.receipts place)) was.managers now.managers said each) got.each receipts_are (phase ∙ ap (λ (q : Phase). phase_after answer q) at) in
+          (λ out. stands was.server number old new was.reached place was.managers x at round.was_led (ready.reached pending) is out) one.2 turns told) in
+          let end = ending number old new (length was.managers) was.server.receipts got.given said now.server answer (list_all is_kept said) refl (round.answer ∙ ap (λ (q : Phase). ack_all_answer q said) at)
+          (same_length (λ place. IsAskedUnless seen forced (is_in was.server.receipts place)) was.managers now.managers said each) got.each round.receipts (round.phase ∙ ap (λ (q : Phase). phase_after answer q) at) in
           record {
             given = got.given;
             step = so got.given (subst (λ (q : Phase). AskStep forced (length was.managers) (stand_of (record was.server { phase = q })) got.given (stand_of now.server)) (sym at) end.0);
             grown = got.grown;
-            many = many;
-            decider = decider;
-            most = most;
+            many = round.many;
+            decider = round.decider;
+            most = round.most;
             number = omega (arith, end.1, ap number_of at);
-            reached = λ _. let before = ready.reached pending in omega (arith, before, many, reached);
+            reached = λ _. let reached_before = ready.reached pending in omega (arith, reached_before, round.many, round.reached);
           }

@@ -6,7 +6,7 @@ use Rattle.std.proofs.lemmas.List.Elements.{Contains-push}
 use Rattle.std.proofs.lemmas.Option.{slice_get_within}
 use Rattle.std.proofs.lemmas.Bool.Decides.{nat_tests}
 use Rattle.access_vectors.specs.Decisions.{Decisions}
-use Rattle.access_vectors.specs.Phases.{number_of, is_pending}
+use Rattle.access_vectors.specs.Phases.{number_of, is_pending, acknowledged}
 use Rattle.access_vectors.specs.declared.phase.Phase.{Phase}
 use Rattle.access_vectors.specs.declared.phase.Phase.TheVariants.{Settled, Pending}
 use Rattle.manager_history.specs.Kept.{is_done, ack_answer, force_answer}
@@ -16,7 +16,7 @@ use Rattle.managed.specs.Seen.{Seen, IsGrown, IsAcknowledged, answer_of}
 use Rattle.managed.specs.declared.managed.Shown.{Shown}
 use Rattle.managed.specs.declared.managed.Event.TheVariants.{Acknowledgement}
 use Rattle.security_server.specs.Numbering.{ServerView, is_in, pending_of, receipt_fault, is_complete, are_all_in, completed}
-use Rattle.change_protocol.specs.Changes.{AreAll, HasAcknowledged, MayBeIn, IsPlaced, IsLed, IsExpected, IsSameServer, IsAskedUnless, IsRound, IfComplete, phase_at, said_of, is_kept, is_idle, is_busy, ack_all_answer}
+use Rattle.change_protocol.specs.Changes.{AreBoth, AreAll, HasAskedAll, HasAcknowledged, MayBeIn, IsPlaced, Led, IsLed, IsExpected, IsSameServer, IsAskedUnless, IsRound, IfComplete, phase_at, said_of, is_kept, is_idle, is_busy, ack_all_answer, phase_after}
 use Rattle.change_protocol.specs.declared.answers.Said.{Said}
 use Rattle.change_protocol.specs.declared.answers.AckAll.{AckAll}
 use Rattle.change_protocol.specs.declared.answers.AckAll.TheVariants as acking
@@ -29,6 +29,11 @@ pub pending_at : (phase : Phase) (pair : ℕ × ℕ) → pending_of phase ≡ So
 pending_at (Settled settled version) pair is = cc
 pending_at (Pending pending old next) pair is =
     let same : (pending, next) ≡ pair = cc in (old, λ i. Pending (same i).0 old (same i).1)
+
+-- where nothing is
+settled_at : (phase : Phase) → pending_of phase ≡ None → (number version : ℕ) × (phase ≡ Settled number version)
+settled_at (Settled number version) none = (number, version, refl)
+settled_at (Pending number old new) none = cc
 
 -- the receipt of a manager is expected where it is not in
 expected_at : {Decider : Type 0} (decider : Decider) (managers most : ℕ) (phase : Phase) (receipts : List Bool) (versions reached place : ℕ) (seen : Seen)
@@ -117,6 +122,35 @@ not_busy number old new manager found ack =
 never_busy : (phase : Phase) (manager : ℕ) (shown : Shown) (ack : Ack) → ack ≡ answer_of true phase manager shown → is_busy (said_of ack) ≡ false
 never_busy (Settled number old) manager shown ack is = ap (λ a. is_busy (said_of a)) is
 never_busy (Pending number old new) manager shown ack is = not_busy number old new manager shown.found ack is
+
+-- nothing is proposed, so nobody is asked
+pub asked_settled : {Decider Manager : Type 0} (decides : Decider → Decisions) (seen : Manager → Seen) (same : Manager → Manager → Type 0) (forced : Bool)
+    (led : Led Decider Manager) (said : List Said) → IsLed decides seen led → ((m : Manager) → same m m) → pending_of led.server.phase ≡ None
+    → HasAskedAll decides seen same forced led led said said acking.Idle
+asked_settled {Manager = Manager} decides seen same forced led said is same_self settled =
+    let none : (number version : ℕ) × (led.server.phase ≡ Settled number version) = settled_at led.server.phase settled in
+    record {
+      answer = rw none.2 refl;
+      idle = λ _. refl;
+      idle_said = λ _. refl;
+      asked = λ pending. absurd (differ (is_pending led.server.phase) pending (ap is_pending none.2));
+      many = refl;
+      same_are = λ place. self_at (slice_get led.managers place);
+      was_led = is;
+      unreached = λ pending. absurd (differ (is_pending led.server.phase) pending (ap is_pending none.2));
+      never_busy = λ pending. absurd (differ (is_pending led.server.phase) pending (ap is_pending none.2));
+      complete = tt;
+      receipts = λ waits. cc;
+      phase = refl;
+      decider = refl;
+      managers = refl;
+      most = refl;
+      reached = refl;
+    }
+  where
+    self_at : (there : Option Manager) → AreBoth same there there
+    self_at None = tt
+    self_at (Some m) = same_self m
 
 module _ {Decider Manager : Type 0} (decides : Decider → Decisions) (seen : Manager → Seen) (same : Manager → Manager → Type 0) (forced : Bool) where
   -- how a manager stands after the question
@@ -353,3 +387,74 @@ module _ {Decider Manager : Type 0} (decides : Decider → Decisions) (seen : Ma
           → IfSome there (λ manager. HasAcknowledged (seen manager).history number)
       go place complete None stands = tt
       go place complete (Some x) stands = (all_received mid ys said reached number counted complete place x (stands x refl)).2
+
+  -- the round at a place as a question, as what stays the same, and as what is in
+  asked_in : (was_in in_now : Bool) (was now : Option Manager) (there : Option Said) → AreAll (IsRound seen same forced was_in in_now) was now there
+      → AreAll (IsAskedUnless seen forced was_in) was now there
+  asked_in was_in in_now None None None all = tt
+  asked_in was_in in_now None None (Some s) all = absurd all
+  asked_in was_in in_now None (Some y) there all = absurd all
+  asked_in was_in in_now (Some x) None there all = absurd all
+  asked_in was_in in_now (Some x) (Some y) None all = absurd all
+  asked_in was_in in_now (Some x) (Some y) (Some s) all = all.asked
+
+  same_in : (was_in in_now : Bool) (was now : Option Manager) (there : Option Said) → AreAll (IsRound seen same forced was_in in_now) was now there → AreBoth same was now
+  same_in was_in in_now None None there all = tt
+  same_in was_in in_now None (Some y) there all = absurd all
+  same_in was_in in_now (Some x) None there all = absurd all
+  same_in was_in in_now (Some x) (Some y) None all = absurd all
+  same_in was_in in_now (Some x) (Some y) (Some s) all = all.same_is
+
+  in_in : (was_in in_now : Bool) (was now : Option Manager) (there : Option Said) → AreAll (IsRound seen same forced was_in in_now) was now there
+      → IfSome there (λ one. in_now ≡ is_kept one)
+  in_in was_in in_now was now None all = tt
+  in_in was_in in_now None None (Some s) all = absurd all
+  in_in was_in in_now None (Some y) (Some s) all = absurd all
+  in_in was_in in_now (Some x) None (Some s) all = absurd all
+  in_in was_in in_now (Some x) (Some y) (Some s) all = all.now_in
+
+  -- a round over all managers, where a number is pending
+  pub asked_pending : (server mid : ServerView Decider) (xs ys : List Manager) (before said : List Said) (reached number old new : ℕ) (result : AckAll)
+      → IsLed decides seen (record { server = server; managers = xs; reached = reached }) → server.phase ≡ Pending number old new
+      → IsSameServer server mid → length ys ≡ length xs
+      → ((place : ℕ) → AreAll (IsRound seen same forced (is_in server.receipts place) (is_in mid.receipts place)) (slice_get xs place) (slice_get ys place) (slice_get said place))
+      → IsCounted mid ys said reached number
+      → result ≡ (if is_complete mid number then acking.Complete number else acking.Waiting)
+      → HasAskedAll decides seen same forced (record { server = server; managers = xs; reached = reached })
+      (record { server = completed mid (is_complete mid number); managers = ys; reached = reached }) before said result
+  asked_pending server mid xs ys before said reached number old new result led pending kept many each counted is =
+      let is_so : is_pending server.phase ≡ true = ap is_pending pending in
+      record {
+        answer = counted_answer server.phase mid ys said reached number result counted kept.phase is;
+        idle = λ settled. absurd (differ (is_pending server.phase) is_so settled);
+        idle_said = λ settled. absurd (differ (is_pending server.phase) is_so settled);
+        asked = λ _ place. asked_in _ (is_in mid.receipts place) _ _ _ (each place);
+        many = many;
+        same_are = λ place. same_in _ _ _ _ _ (each place);
+        was_led = led;
+        unreached = λ _. idle_each server mid xs ys said reached number old new led pending each;
+        never_busy = λ _ forces. busy_each server mid xs ys said forces each;
+        complete = complete_history mid ys said reached number result counted is;
+        receipts = λ waits place. elim (is_complete mid number) as (λ (b : Bool). result ≡ (if b then acking.Complete number else acking.Waiting)
+            → IfSome (slice_get said place) (λ one. is_in (completed mid b).receipts place ≡ is_kept one)) [
+              | false ↦ λ _. in_in _ _ _ _ _ (each place)
+              | true ↦ λ done. cc
+            ] is;
+        phase = rw is (elim (is_complete mid number) as (λ (b : Bool). (completed mid b).phase ≡ phase_after (if b then acking.Complete number else acking.Waiting) server.phase) [
+          | false ↦ kept.phase
+          | true ↦ ap acknowledged kept.phase
+        ]);
+        decider = elim (is_complete mid number) as (λ (b : Bool). (completed mid b).decider ≡ server.decider) [
+          | false ↦ kept.decider
+          | true ↦ kept.decider
+        ];
+        managers = elim (is_complete mid number) as (λ (b : Bool). (completed mid b).managers ≡ server.managers) [
+          | false ↦ kept.managers
+          | true ↦ kept.managers
+        ];
+        most = elim (is_complete mid number) as (λ (b : Bool). (completed mid b).most ≡ server.most) [
+          | false ↦ kept.most
+          | true ↦ kept.most
+        ];
+        reached = refl;
+      }

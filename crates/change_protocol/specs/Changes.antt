@@ -1,5 +1,5 @@
 -- A change of policy over all managers: how each manager has to stand, and what each step does to it.
-use Rattle.std.specs.Prelude.{◌≡◌, ℕ, ◌+◌, ◌-◌, ◌<◌, ◌≤◌, Bool, true, false, ◌&&◌, ◌==◌, nat_lt, List, length, slice_get, slice_set, Option, Some, None, option_map, Result, Ok, Err, is_ok, if◌then◌else◌}
+use Rattle.std.specs.Prelude.{◌≡◌, ℕ, ◌+◌, ◌-◌, ◌<◌, ◌≤◌, Bool, true, false, not, ◌&&◌, ◌==◌, nat_lt, IfSome, List, length, slice_get, slice_set, Option, Some, None, option_map, Result, Ok, Err, is_ok, if◌then◌else◌}
 use Rattle.std.specs.List.{Contains, list_all}
 use Rattle.access_vectors.specs.Decisions.{Decisions}
 use Rattle.access_vectors.specs.Phases.{number_of, is_pending, acknowledged, AreVersions}
@@ -226,6 +226,28 @@ abbrev pub phase_after : AckAll → Phase → Phase
 phase_after acking.Idle phase = phase
 phase_after (acking.Complete number) phase = acknowledged phase
 phase_after acking.Waiting phase = phase
+
+-- each manager was asked whether it acknowledges, or forced to, unless its receipt was in; where nothing is proposed none was
+pub record HasAskedAll {Decider Manager : Type 0} (decides : Decider → Decisions) (seen : Manager → Seen) (same : Manager → Manager → Type 0) (forced : Bool)
+    (old new : Led Decider Manager) (said_before said : List Said) (result : AckAll) : Type 0 where
+  pub answer : result ≡ ack_all_answer old.server.phase said
+  pub idle : is_pending old.server.phase ≡ false → new ≡ old
+  pub idle_said : is_pending old.server.phase ≡ false → said ≡ said_before
+  pub asked : is_pending old.server.phase ≡ true
+      → (place : ℕ) → AreAll (IsAskedUnless seen forced (is_in old.server.receipts place)) (slice_get old.managers place) (slice_get new.managers place) (slice_get said place)
+  pub many : length new.managers ≡ length old.managers
+  pub same_are : (place : ℕ) → AreBoth same (slice_get old.managers place) (slice_get new.managers place)
+  pub was_led : IsLed decides seen old
+  -- exactly those say that they are idle that have no notice yet, and none that is forced says that it is busy
+  pub unreached : is_pending old.server.phase ≡ true → (place : ℕ) → IfSome (slice_get said place) (λ one. is_idle one ≡ not (nat_lt place old.reached))
+  pub never_busy : is_pending old.server.phase ≡ true → forced ≡ true → (place : ℕ) → IfSome (slice_get said place) (λ one. is_busy one ≡ false)
+  pub complete : IfComplete result (λ number. (place : ℕ) → IfSome (slice_get new.managers place) (λ manager. HasAcknowledged (seen manager).history number))
+  pub receipts : result ≡ acking.Waiting → (place : ℕ) → IfSome (slice_get said place) (λ one. is_in new.server.receipts place ≡ is_kept one)
+  pub phase : new.server.phase ≡ phase_after result old.server.phase
+  pub decider : new.server.decider ≡ old.server.decider
+  pub managers : new.server.managers ≡ old.server.managers
+  pub most : new.server.most ≡ old.server.most
+  pub reached : new.reached ≡ old.reached
 
 -- what a notice to all answers: the fault, if there is one; else the number, where every manager has its notice then, and
 -- want of memory where not

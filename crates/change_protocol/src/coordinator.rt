@@ -1,6 +1,6 @@
 //! The coordinator of a change over all managers.
 
-ghost use Rattle.std.specs.Prelude.{◌≡◌, ◌<◌, ℕ, false, true, length, slice_get, is_some, not, nat_lt, IfSome, IfOk, IfErr, OnOk, OnErr};
+ghost use Rattle.std.specs.Prelude.{◌≡◌, ◌<◌, ℕ, false, true, length, slice_get, is_some, IfSome};
 ghost use Rattle.access_vectors.specs.Phases.{is_pending};
 ghost use Rattle.managed.specs.Seen.{IsUpdated};
 ghost use Rattle.security_server.specs.Numbering.{is_in};
@@ -101,26 +101,7 @@ impl<'d, D: Decider, M: Managed> Coordinator<'d, D, M> {
     /// takes no memory.
     pub fn ack_all<R: Wait>(&mut self, rt: &R, said: &mut [Said]) -> AckAll
         requires { length said.old ≡ length self.old.managers }
-        ensures answer { result ≡ Changes.ack_all_answer self.old.server.phase said.new }
-        ensures idle { is_pending self.old.server.phase ≡ false → self.new ≡ self.old }
-        ensures idle_said { is_pending self.old.server.phase ≡ false → said.new ≡ said.old }
-        ensures asked { is_pending self.old.server.phase ≡ true
-            → (place : ℕ) → Changes.AreAll (Changes.IsAskedUnless M.seen false (is_in self.old.server.receipts place))
-            (slice_get self.old.managers place) (slice_get self.new.managers place) (slice_get said.new place) }
-        ensures many { length self.new.managers ≡ length self.old.managers }
-        ensures same { (place : ℕ) → Changes.AreBoth M.same (slice_get self.old.managers place) (slice_get self.new.managers place) }
-        ensures was_led { Changes.IsLed D.decides M.seen self.old }
-        ensures unreached { is_pending self.old.server.phase ≡ true
-            → (place : ℕ) → IfSome (slice_get said.new place) (λ one. Changes.is_idle one ≡ not (nat_lt place self.old.reached)) }
-        ensures complete { Changes.IfComplete result (λ number. (place : ℕ)
-            → IfSome (slice_get self.new.managers place) (λ manager. Changes.HasAcknowledged (M.seen manager).history number)) }
-        ensures receipts { result ≡ AckAll.Waiting
-            → (place : ℕ) → IfSome (slice_get said.new place) (λ one. is_in self.new.server.receipts place ≡ Changes.is_kept one) }
-        ensures phase { self.new.server.phase ≡ Changes.phase_after result self.old.server.phase }
-        ensures decider { self.new.server.decider ≡ self.old.server.decider }
-        ensures managers { self.new.server.managers ≡ self.old.server.managers }
-        ensures most { self.new.server.most ≡ self.old.server.most }
-        ensures reached { self.new.reached ≡ self.old.reached }
+        ensures { Changes.HasAskedAll D.decides M.seen M.same false self.old self.new said.old said.new result }
     {
         self.ask_all(rt, false, said)
     }
@@ -130,28 +111,7 @@ impl<'d, D: Decider, M: Managed> Coordinator<'d, D, M> {
     /// and `said` stays. It takes no memory.
     pub fn force_all<R: Wait>(&mut self, rt: &R, said: &mut [Said]) -> AckAll
         requires { length said.old ≡ length self.old.managers }
-        ensures answer { result ≡ Changes.ack_all_answer self.old.server.phase said.new }
-        ensures idle { is_pending self.old.server.phase ≡ false → self.new ≡ self.old }
-        ensures idle_said { is_pending self.old.server.phase ≡ false → said.new ≡ said.old }
-        ensures asked { is_pending self.old.server.phase ≡ true
-            → (place : ℕ) → Changes.AreAll (Changes.IsAskedUnless M.seen true (is_in self.old.server.receipts place))
-            (slice_get self.old.managers place) (slice_get self.new.managers place) (slice_get said.new place) }
-        ensures many { length self.new.managers ≡ length self.old.managers }
-        ensures same { (place : ℕ) → Changes.AreBoth M.same (slice_get self.old.managers place) (slice_get self.new.managers place) }
-        ensures was_led { Changes.IsLed D.decides M.seen self.old }
-        ensures unreached { is_pending self.old.server.phase ≡ true
-            → (place : ℕ) → IfSome (slice_get said.new place) (λ one. Changes.is_idle one ≡ not (nat_lt place self.old.reached)) }
-        ensures never_busy { is_pending self.old.server.phase ≡ true
-            → (place : ℕ) → IfSome (slice_get said.new place) (λ one. Changes.is_busy one ≡ false) }
-        ensures complete { Changes.IfComplete result (λ number. (place : ℕ)
-            → IfSome (slice_get self.new.managers place) (λ manager. Changes.HasAcknowledged (M.seen manager).history number)) }
-        ensures receipts { result ≡ AckAll.Waiting
-            → (place : ℕ) → IfSome (slice_get said.new place) (λ one. is_in self.new.server.receipts place ≡ Changes.is_kept one) }
-        ensures phase { self.new.server.phase ≡ Changes.phase_after result self.old.server.phase }
-        ensures decider { self.new.server.decider ≡ self.old.server.decider }
-        ensures managers { self.new.server.managers ≡ self.old.server.managers }
-        ensures most { self.new.server.most ≡ self.old.server.most }
-        ensures reached { self.new.reached ≡ self.old.reached }
+        ensures { Changes.HasAskedAll D.decides M.seen M.same true self.old self.new said.old said.new result }
     {
         self.ask_all(rt, true, said)
     }
@@ -159,28 +119,7 @@ impl<'d, D: Decider, M: Managed> Coordinator<'d, D, M> {
     /// Asks each manager whose receipt is not in whether it acknowledges, or forces it to.
     fn ask_all<R: Wait>(&mut self, rt: &R, forced: bool, said: &mut [Said]) -> AckAll
         requires { length said.old ≡ length self.old.managers }
-        ensures answer { result ≡ Changes.ack_all_answer self.old.server.phase said.new }
-        ensures idle { is_pending self.old.server.phase ≡ false → self.new ≡ self.old }
-        ensures idle_said { is_pending self.old.server.phase ≡ false → said.new ≡ said.old }
-        ensures asked { is_pending self.old.server.phase ≡ true
-            → (place : ℕ) → Changes.AreAll (Changes.IsAskedUnless M.seen forced (is_in self.old.server.receipts place))
-            (slice_get self.old.managers place) (slice_get self.new.managers place) (slice_get said.new place) }
-        ensures many { length self.new.managers ≡ length self.old.managers }
-        ensures same { (place : ℕ) → Changes.AreBoth M.same (slice_get self.old.managers place) (slice_get self.new.managers place) }
-        ensures was_led { Changes.IsLed D.decides M.seen self.old }
-        ensures unreached { is_pending self.old.server.phase ≡ true
-            → (place : ℕ) → IfSome (slice_get said.new place) (λ one. Changes.is_idle one ≡ not (nat_lt place self.old.reached)) }
-        ensures never_busy { is_pending self.old.server.phase ≡ true → forced ≡ true
-            → (place : ℕ) → IfSome (slice_get said.new place) (λ one. Changes.is_busy one ≡ false) }
-        ensures complete { Changes.IfComplete result (λ number. (place : ℕ)
-            → IfSome (slice_get self.new.managers place) (λ manager. Changes.HasAcknowledged (M.seen manager).history number)) }
-        ensures receipts { result ≡ AckAll.Waiting
-            → (place : ℕ) → IfSome (slice_get said.new place) (λ one. is_in self.new.server.receipts place ≡ Changes.is_kept one) }
-        ensures phase { self.new.server.phase ≡ Changes.phase_after result self.old.server.phase }
-        ensures decider { self.new.server.decider ≡ self.old.server.decider }
-        ensures managers { self.new.server.managers ≡ self.old.server.managers }
-        ensures most { self.new.server.most ≡ self.old.server.most }
-        ensures reached { self.new.reached ≡ self.old.reached }
+        ensures { Changes.HasAskedAll D.decides M.seen M.same forced self.old self.new said.old said.new result }
     {
         let Some((number, _version)) = self.server.pending() else {
             return AckAll::Idle;

@@ -1,7 +1,7 @@
 -- A session that is made of three numbers is never refused.
-use Rattle.std.proofs.Common.{◌≡◌, ◌⊎◌, ℕ, true, false, true≢false, List, Option, Some, None, Ok, Err, refl, sym, ◌∙◌, ap, inl, inr}
+use Rattle.std.proofs.Common.{◌≡◌, ◌⊎◌, ℕ, true, false, true≢false, List, Option, Some, None, Ok, refl, sym, ◌∙◌, inl, inr}
 use Rattle.flask_sid.specs.declared.context.ContextOf.{ContextOf}
-use Rattle.policy_versions.specs.Judging.{Judged, TooMany, Broken, Fits, IsJudged}
+use Rattle.policy_versions.specs.Judging.{Judged, Fits}
 use Rattle.command_line.specs.declared.command.Command.{Command}
 use Rattle.command_line.specs.declared.command.Command.TheVariants as command
 use Rattle.session_generator.specs.Generated.{generated}

@@ -1,16 +1,16 @@
 -- What is found where a path is asked for, and that it is found alone.
-use Rattle.std.proofs.Common.{◌≡◌, ◌∙◌, ◌<◌, ◌≤◌, ◌⊎◌, ℕ, Bool, true, false, List, [], ◌∷◌, length, Option, Some, None, refl, sym, ap, subst, arith, inl, inr}
+use Rattle.std.proofs.Common.{◌≡◌, ◌∙◌, ◌<◌, ◌≤◌, ℕ, Bool, true, false, List, [], ◌∷◌, length, Option, Some, None, refl, sym, ap, subst, arith, inl, inr}
 use Rattle.std.proofs.lemmas.Bool.Decides.{nat_tests}
 use Rattle.flask_sid.specs.declared.context.ContextOf.{ContextOf}
 use Rattle.policy_model.specs.declared.policy.PolicyParts.{PolicyParts}
 use Rattle.policy_model.specs.Kept.{IsWholePolicy}
 use Rattle.policy_versions.proofs.KindLemmas.{kinds_few}
 use Rattle.flow_query.specs.Hops.{is_node}
-use Rattle.flow_query.specs.Paths.{Graph, IsPath, IsNotAfter, IsAnswer, HasNoPath}
+use Rattle.flow_query.specs.Paths.{Graph, IsPath, IsNotAfter, IsAnswer}
 use Rattle.flow_query.specs.declared.hop.Hop.{Hop}
 use Rattle.flow_query.specs.declared.route.Kind.{Kind}
 use Rattle.command_line.specs.declared.command.PathAsked.{PathAsked}
-use Rattle.flaskd_run.specs.Paths.{IsFoundBetween, IsFoundTo, IsFoundFrom, IsFoundIn, IsFound, node_named}
+use Rattle.flaskd_run.specs.Paths.{IsFoundBetween, IsFoundIn, IsFound, node_named}
 use Rattle.flaskd_run.specs.declared.paths.PathAnswer.{PathAnswer}
 use Rattle.flaskd_run.specs.declared.paths.PathAnswer.TheVariants as answer
 

@@ -1,5 +1,5 @@
 -- How a run goes, by where it ends.
-use Rattle.std.proofs.Common.{◌≡◌, ◌≤◌, ◌&&◌, ℕ, Bool, true, false, true≢false, List, [], length, Option, None, Some, Result, Ok, Err, refl, sym, ◌∙◌, ap, append-nil, inl, inr, arith, subst}
+use Rattle.std.proofs.Common.{◌≡◌, ◌≤◌, ℕ, Bool, true, false, true≢false, List, [], length, Option, None, Some, Result, Ok, Err, refl, sym, ap, append-nil, inl, inr, arith, subst}
 use Rattle.std.specs.Prelude.{◌<◌, ◌⊎◌, OnOk, OnErr, codes}
 use Rattle.flask_io.specs.Streams.{Takes, Adds}
 use Rattle.text_lines.specs.ResultSteps.{LineFault}
@@ -14,7 +14,6 @@ use Rattle.policy_versions.specs.declared.compiling.CompileFault.{CompileFault}
 use Rattle.policy_versions.specs.declared.compiling.CompileFault.TheVariants.{TooManyContexts, Neverallow, Memory}
 use Rattle.flow_query.specs.declared.route.Kind.{Kind}
 use Rattle.command_line.specs.declared.command.Command.{Command}
-use Rattle.command_line.specs.declared.command.Command.TheVariants as command
 use Rattle.command_line.specs.declared.command.PathAsked.{PathAsked}
 use Rattle.run_output.specs.Writing.{AddsFront}
 use Rattle.flaskd_run.specs.Reading.{IsEnd}
@@ -28,7 +27,7 @@ use Rattle.std.proofs.lemmas.Bool.{lt-ltb, le-ltb}
 use Rattle.flaskd_run.specs.Threads.{HasEnded, text_of}
 use Rattle.flaskd_run.specs.declared.threads.Ended.{Ended}
 use Rattle.flaskd_run.specs.Tasks.{reads_input, task_of, policy_in, IsText, Writes, WritesAll, WritesFront}
-use Rattle.flaskd_run.specs.Top.{reads_source, is_large, is_too_large, status_of, expected_of, Answers, IsTaskText, IsPrinted, IsPrintedUnless, IsAnswerOf, IsJudgedOf, IsJudgedFor, IsWhole, IsRead, Puts, PutsWhole, Ran, Serves, Served, IsRefused}
+use Rattle.flaskd_run.specs.Top.{reads_source, is_large, is_too_large, status_of, expected_of, Answers, IsPrinted, IsPrintedUnless, IsAnswerOf, IsJudgedOf, IsJudgedFor, IsWhole, IsRead, Puts, PutsWhole, Ran, Serves, Served, IsRefused}
 use Rattle.flaskd_run.proofs.PathLemmas.{only_found}
 use Rattle.flaskd_run.specs.declared.paths.PathAnswer.{PathAnswer}
 use Rattle.flaskd_run.specs.declared.status.Status.{Status}

@@ -21,7 +21,7 @@ use retained_rights::{AllBits, EachBits};
 use run_histories::Closed;
 use run_output::{RunStop, Setting};
 use run_stops::Stops;
-use session_runner::{FirstObjects, openings_of};
+use session_runner::{RunParts, run_parts};
 use session_text::{ClientLine, SessionParts};
 use std::alloc::Global;
 use std::sync::Wait;
@@ -55,26 +55,17 @@ pub fn run_to_end<'d, R: Threads + Wait + Sync, D: Decider + Sync, G: Stops + Sy
     ensures ended { IfOk result (Threads.HasEnded (D.decides decider.now) session) }
     ensures log { IfOk result (Threads.IsLogged contexts.now session) }
 {
-    let SessionParts {
-        policy,
-        root,
-        port,
-        ports,
-        audit,
-        nodes,
-        clients,
+    let RunParts {
+        openings,
         lines,
-    } = session;
-    let first = FirstObjects {
-        root,
-        nodes,
-        port,
-        ports,
-    };
+        policy,
+        clients,
+        audit,
+    } = run_parts(alloc, session)?;
     let plan = Plan {
-        openings: openings_of(alloc, first, clients.as_slice())?,
+        openings,
         clients: clients.len() as u8,
-        lines: lines.into_vec(),
+        lines,
     };
     let rules = Audit {
         policy: policy.parts(),

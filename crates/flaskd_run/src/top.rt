@@ -166,10 +166,11 @@ fn write<R: Threads + Wait + Sync, K: Sink, G: Stops + Sync>(
     ensures writes { Tasks.Writes result task (sids_of catalogue.now) (K.written sink.old) (K.written sink.new) }
     ensures cause { HasCause (K.faults sink.old) (K.faults sink.new) (result ≡ Err RunStop.WriteFault) }
 {
+    let contexts = catalogue.sids();
     match task {
-        Task::Serial(session) => run_session(rt, alloc, session, catalogue, sink),
+        Task::Serial(session) => serial(rt, alloc, session.into_parts(), catalogue, contexts, sink),
         Task::Threads(session) => run_threads(rt, alloc, session, catalogue, stops, sink),
-        Task::Summary(session) => sum_session(rt, alloc, session, catalogue, sink),
+        Task::Summary(session) => summary(rt, alloc, session.into_parts(), catalogue, sink),
         Task::Path {
             policy,
             kind,
@@ -179,28 +180,6 @@ fn write<R: Threads + Wait + Sync, K: Sink, G: Stops + Sync>(
             learn_session(rt, alloc, session, version, catalogue, sink)
         }
     }
-}
-
-/// Runs a session whose policy is compiled, and writes all that its lines say.
-fn run_session<R: Wait, K: Sink>(
-    rt: &R,
-    alloc: Global,
-    session: Session,
-    catalogue: &Catalogue,
-    sink: &mut K,
-) -> Result<(), RunStop>
-    requires { IsCatalogueOf session.policy catalogue.now }
-    ensures writes { Tasks.Writes result (task.Serial session) (sids_of catalogue.now) (K.written sink.old) (K.written sink.new) }
-    ensures cause { HasCause (K.faults sink.old) (K.faults sink.new) (result ≡ Err RunStop.WriteFault) }
-{
-    serial(
-        rt,
-        alloc,
-        session.into_parts(),
-        catalogue,
-        catalogue.sids(),
-        sink,
-    )
 }
 
 /// Runs a session whose policy is compiled with a worker for each client and one for the administrator, and writes the managers'
@@ -222,21 +201,6 @@ fn run_threads<R: Threads + Wait + Sync, K: Sink, G: Stops + Sync>(
     let written = write_ended(rt, alloc, &ended, contexts, sink);
     forget(ended);
     written
-}
-
-/// Runs a session whose policy is compiled, and writes its summary alone.
-fn sum_session<R: Wait, K: Sink>(
-    rt: &R,
-    alloc: Global,
-    session: Session,
-    catalogue: &Catalogue,
-    sink: &mut K,
-) -> Result<(), RunStop>
-    requires { IsCatalogueOf session.policy catalogue.now }
-    ensures writes { Tasks.Writes result (task.Summary session) (sids_of catalogue.now) (K.written sink.old) (K.written sink.new) }
-    ensures cause { HasCause (K.faults sink.old) (K.faults sink.new) (result ≡ Err RunStop.WriteFault) }
-{
-    summary(rt, alloc, session.into_parts(), catalogue, sink)
 }
 
 /// Finds what is asked in a policy that is compiled, and writes what was found.

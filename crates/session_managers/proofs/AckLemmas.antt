@@ -13,7 +13,7 @@ use Rattle.manager_history.specs.declared.answers.Ack.TheVariants as acks
 use Rattle.managed.specs.Posts.{Post, stale_on, settled_if}
 use Rattle.security_server.specs.Numbering.{is_in}
 use Rattle.change_protocol.specs.Changes as changes
-use Rattle.change_protocol.specs.Changes.{Led, IsLed, IsPlaced, AreAll, IsAskedUnless, ack_all_answer, phase_after, phase_at, is_kept}
+use Rattle.change_protocol.specs.Changes.{Led, IsLed, IsPlaced, AreAll, IsAskedUnless, HasAskedAll, phase_after, phase_at, is_kept}
 use Rattle.change_protocol.specs.declared.answers.AckAll.{AckAll}
 use Rattle.change_protocol.specs.declared.answers.AckAll.TheVariants as acking
 use Rattle.change_protocol.specs.declared.answers.Said.{Said}
@@ -29,7 +29,7 @@ use Rattle.port_calls.specs.States.{PortState}
 use Rattle.port_store.specs.Stores as port_store
 use Rattle.session_managers.specs.declared.one_manager.OneManager.{OneManager}
 use Rattle.session_managers.specs.SessionStates.{SessionState, pending_at, waits_on, ack_on, said_of, all_saying, standing_by, is_complete, counted_change, state_settled, file_ack, process_ack, port_ack}
-use Rattle.session_managers.specs.One.{Files, Processes, Ports, phase, place_of, decider_of, seen, file_opening, process_opening, port_opening}
+use Rattle.session_managers.specs.One.{Files, Processes, Ports, IsSame, phase, place_of, decider_of, seen, file_opening, process_opening, port_opening}
 use Rattle.session_managers.specs.Standings.{IsSession, is_whole, session_state_of}
 use Rattle.session_managers.proofs.AdminLemmas.{acknowledged_post, acknowledged_answer, phase_as}
 use Rattle.session_managers.proofs.NoticeLemmas.{seen_phase, number_at, reached_all, all_settled}
@@ -174,17 +174,8 @@ module _ {D : Type 0} (decides : D → Decisions) (forced : Bool) where
       from (a ∷ b ∷ c ∷ d ∷ more) each = absurd (each 3)
 
   -- what the coordinator tells of the question
-  pub record IsAskedOf (led after : Led D (OneManager D)) (said : List Said) (all : AckAll) : Type 0 where
-    pub answer : all ≡ ack_all_answer led.server.phase said
-    pub idle : is_pending led.server.phase ≡ false → after ≡ led
-    pub idle_said : is_pending led.server.phase ≡ false → said ≡ saying.Kept ∷ saying.Kept ∷ saying.Kept ∷ []
-    pub asked : is_pending led.server.phase ≡ true → (place : ℕ)
-        → AreAll (IsAskedUnless (seen decides) forced (is_in led.server.receipts place)) (slice_get led.managers place) (slice_get after.managers place) (slice_get said place)
-    pub was_led : IsLed decides (seen decides) led
-    pub phase_is : after.server.phase ≡ phase_after all led.server.phase
-    pub decider : after.server.decider ≡ led.server.decider
-    pub most : after.server.most ≡ led.server.most
-    pub reached : after.reached ≡ led.reached
+  abbrev pub IsAskedOf : (led after : Led D (OneManager D)) (said : List Said) (all : AckAll) → Type 0
+  IsAskedOf led after said all = HasAskedAll decides (seen decides) IsSame forced led after (saying.Kept ∷ saying.Kept ∷ saying.Kept ∷ []) said all
 
   -- the session then
   pub record IsAckedSession (led after : Led D (OneManager D)) (said : List Said) (all : AckAll) (calls denied changes : ℕ) : Type 0 where
@@ -244,7 +235,7 @@ module _ {D : Type 0} (decides : D → Decisions) (forced : Bool) where
         process_decider = p.2 ∙ sym told.decider;
         port_decider = q.2 ∙ sym told.decider;
         most = told.most ∙ s.most;
-        changing = λ _. ap is_pending (told.phase_is ∙ rw (answer, at) (phase_of (list_all is_kept (all_saying forced d state)))) ∙ pending_of (list_all is_kept (all_saying forced d state)) ∙ sym pending;
+        changing = λ _. ap is_pending (told.phase ∙ rw (answer, at) (phase_of (list_all is_kept (all_saying forced d state)))) ∙ pending_of (list_all is_kept (all_saying forced d state)) ∙ sym pending;
       } in
       record {
         session = session;

@@ -83,7 +83,8 @@ impl<'d, D: Decider> OneManager<'d, D> {
         }
     }
 
-    /// Does a client's call, which is of this manager, under its held pass or else a pass of the newest number.
+    /// Does a client's call, which is of this manager, under its held pass or else a pass of the newest number. What it got is read
+    /// where it lies in the history, so the copy for a caller is dropped.
     #[inline(always)]
     fn call(&mut self, alloc: Global, client: u8, mark: u32, call: Call) -> Result<(), Memory>
         requires may { One.MayCall (D.decides (One.decider_of self.old)) (One.place_of self.old) client call }

@@ -4,9 +4,18 @@ use Rattle.access_vectors.specs.Decisions.{Decisions}
 use Rattle.session_managers.specs.SessionViews.{none_told}
 use Rattle.session_text.specs.declared.session.SessionParts.{SessionParts}
 use Rattle.session_runner.specs.Runners.{Running}
-use Rattle.session_runner.specs.Runs.{first_state}
+use Rattle.session_runner.specs.Runs.{first_state, openings_of}
 use Rattle.session_runner.specs.Underway.{MayRun}
 use Rattle.session_runner.specs.declared.opening.Opened.{Opened}
+use Rattle.session_runner.specs.declared.opening.RunParts.{RunParts}
+
+-- a session was taken apart
+pub record AreRunParts (session : SessionParts) (parts : RunParts) : Type 0 where
+  pub openings_are : parts.openings ≡ openings_of session
+  pub lines_are : parts.lines.items ≡ session.lines
+  pub policy_is : parts.policy ≡ session.policy
+  pub clients_are : parts.clients ≡ session.clients
+  pub audit_is : parts.audit ≡ session.audit
 
 -- a runner before the first line of a session
 abbrev pub first_runner : {Decider : Type 0} → Decider → SessionParts → Running Decider

@@ -8,7 +8,7 @@ mod recorder;
 mod runner;
 mod running;
 
-pub use opening::{FirstObjects, Opened, open, openings_of};
+pub use opening::{Opened, RunParts, open, run_parts};
 pub use outcomes::{Called, Caller, LineAnswer};
 pub use recorder::Recorder;
 pub use runner::Runner;

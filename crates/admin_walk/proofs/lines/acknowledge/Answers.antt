@@ -4,6 +4,7 @@ use Rattle.admin_walk.proofs.lines.acknowledge.Goals as goal
 
 pub returns-clause-acted : goal.returns-clause-acted
 returns-clause-acted g c =
-    let all = c.ack_all.ensures in
-    asked_all g.D.Decider.decides g.M.Managed.seen false _ _ c.args.changes.now c.ack_all.new.self c.ack_all.new.said c.ack_all.result c.requires.ready all.was_led (λ given step. step)
-    all.answer all.idle all.asked all.many all.receipts all.phase all.decider all.most all.reached
+    asked_all g.D.Decider.decides g.M.Managed.seen false _ _ g.M.Managed.same c.args.changes.now c.ack_all.new.self _ c.ack_all.new.said c.ack_all.result c.requires.ready (λ given step. step) c.ack_all.ensures
+
+pub returns-clause-same : goal.returns-clause-same
+returns-clause-same g c = c.ack_all.ensures.same_are

@@ -4,6 +4,7 @@ use Rattle.admin_walk.proofs.lines.force.Goals as goal
 
 pub returns-clause-acted : goal.returns-clause-acted
 returns-clause-acted g c =
-    let all = c.force_all.ensures in
-    asked_all g.D.Decider.decides g.M.Managed.seen true _ _ c.args.changes.now c.force_all.new.self c.force_all.new.said c.force_all.result c.requires.ready all.was_led (λ given step. step)
-    all.answer all.idle all.asked all.many all.receipts all.phase all.decider all.most all.reached
+    asked_all g.D.Decider.decides g.M.Managed.seen true _ _ g.M.Managed.same c.args.changes.now c.force_all.new.self _ c.force_all.new.said c.force_all.result c.requires.ready (λ given step. step) c.force_all.ensures
+
+pub returns-clause-same : goal.returns-clause-same
+returns-clause-same g c = c.force_all.ensures.same_are

@@ -1,7 +1,6 @@
 use Rattle.std.proofs.Common.{◌≡◌, ◌∙◌, ◌<◌, ◌≤◌, ℕ, length, ap, arith}
 use Rattle.session_text.specs.declared.session.SessionParts.{SessionParts}
 use Rattle.policy_model.specs.declared.policy.PolicyParts.{PolicyParts}
-use Rattle.policy_model.specs.Kept.{IsWholePolicy}
 use Rattle.policy_versions.proofs.NameLemmas.{few_versions}
 use Rattle.policy_versions.specs.Compiling.{sids_of, decides_of}
 use Rattle.flaskd_run.proofs.TopLemmas.{no_version_writes, learn_writes}

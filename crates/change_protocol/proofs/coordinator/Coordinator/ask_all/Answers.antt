@@ -1,5 +1,5 @@
 use Rattle.std.proofs.Common.{length, arith, sym, ◌∙◌, ◌≡◌}
-use Rattle.change_protocol.proofs.Acknowledging.{IsCounted, expected_each, pending_at, counted, counted_answer, idle_each, busy_each, completed_led, complete_history}
+use Rattle.change_protocol.proofs.Acknowledging.{IsCounted, expected_each, pending_at, counted, completed_led, asked_settled, asked_pending}
 use Rattle.change_protocol.proofs.coordinator.Coordinator.ask_all.Given as given
 use Rattle.change_protocol.proofs.coordinator.Coordinator.ask_all.Goals as goal
 
@@ -25,23 +25,16 @@ pub invariant_of-self : goal.invariant_of-self
 invariant_of-self g c =
     rw c.complete_or_wait.ensures.settled (completed_led g.D.Decider.decides g.M.Managed.seen g.M.Managed.same c.args.forced _ _ _ _ c.in-Some.number (all_counted g c))
 
-pub returns-clause-answer : goal.returns-clause-answer
-returns-clause-answer g c =
-    rw (← c.self.view_is) (counted_answer g.D.Decider.decides g.M.Managed.seen g.M.Managed.same c.args.forced c.self.inside.server.phase _ _ _ _ c.in-Some.number c.complete_or_wait.result
-    (all_counted g c) c.ack_each.ensures.server.phase c.complete_or_wait.ensures.answer)
+pub returns-in_default : goal.returns-in_default
+returns-in_default g c =
+    rw (← c.self.view_is) (asked_settled g.D.Decider.decides g.M.Managed.seen g.M.Managed.same c.args.forced _ c.args.said.now c.self.invariant g.met.M.Managed.reflexive
+    (sym c.pending.ensures ∙ c.in_default.is))
 
-pub returns-clause-complete : goal.returns-clause-complete
-returns-clause-complete g c =
-    complete_history g.D.Decider.decides g.M.Managed.seen g.M.Managed.same c.args.forced _ _ _ _ c.in-Some.number c.complete_or_wait.result (all_counted g c) c.complete_or_wait.ensures.answer
-
-pub returns-clause-unreached : goal.returns-clause-unreached
-returns-clause-unreached g c =
+pub returns : goal.returns
+returns g c =
     let server = c.self.inside.server in
     let pending = pending_at server.phase (c.in-Some.number, c.in-Some._version) (sym c.in-Some.ensures) in
-    rw (← c.self.view_is) (λ _. idle_each g.D.Decider.decides g.M.Managed.seen g.M.Managed.same c.args.forced server c.ack_each.new.server c.self.inside.managers.items c.ack_each.new.managers.items
-    c.ack_each.new.said c.self.inside.reached c.in-Some.number pending.0 c.in-Some._version c.self.invariant pending.1 c.ack_each.ensures.each)
-
-pub returns-clause-never_busy : goal.returns-clause-never_busy
-returns-clause-never_busy g c =
-    rw (← c.self.view_is) (λ _ forces. busy_each g.D.Decider.decides g.M.Managed.seen g.M.Managed.same c.args.forced c.self.inside.server c.ack_each.new.server c.self.inside.managers.items
-    c.ack_each.new.managers.items c.ack_each.new.said forces c.ack_each.ensures.each)
+    let told = c.ack_each.ensures in
+    rw (← c.self.view_is, c.complete_or_wait.ensures.settled) (asked_pending g.D.Decider.decides g.M.Managed.seen g.M.Managed.same c.args.forced server c.ack_each.new.server
+    c.self.inside.managers.items c.ack_each.new.managers.items c.args.said.now c.ack_each.new.said c.self.inside.reached c.in-Some.number pending.0 c.in-Some._version c.complete_or_wait.result
+    c.self.invariant pending.1 told.server (omega (arith, told.len, c.self.inside.managers.ok.0, c.ack_each.new.managers.ok.0)) told.each (all_counted g c) c.complete_or_wait.ensures.answer)

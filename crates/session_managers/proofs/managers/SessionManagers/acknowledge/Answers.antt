@@ -10,20 +10,9 @@ acked : (g : given.Over) (c : goal.After-self-1 g)
 acked g c =
     let told = c.ack_all-all.ensures in
     let s = c.self.invariant.0 in
-    let t = three c.self.inside.changes s c.ack_all-all.new.self.managers told.many told.same in
+    let t = three c.self.inside.changes s c.ack_all-all.new.self.managers told.many told.same_are in
     acked_session g.D.Decider.decides false c.self.inside.changes c.ack_all-all.new.self s t c.ack_all-all.new.said c.ack_all-all.result c.self.inside.calls c.self.inside.denied c.self.inside.completed
-    (rw (← c.self.view_is) at c.requires.whole)
-    (record {
-      answer = told.answer;
-      idle = told.idle;
-      idle_said = told.idle_said;
-      asked = told.asked;
-      was_led = told.was_led;
-      phase_is = told.phase;
-      decider = told.decider;
-      most = told.most;
-      reached = told.reached;
-    })
+    (rw (← c.self.view_is) at c.requires.whole) told
 
 pub invariant_of-self : goal.invariant_of-self
 invariant_of-self g c = ((acked g c).session, c.self.invariant.1)
