@@ -227,7 +227,9 @@ phase_after acking.Idle phase = phase
 phase_after (acking.Complete number) phase = acknowledged phase
 phase_after acking.Waiting phase = phase
 
--- each manager was asked whether it acknowledges, or forced to, unless its receipt was in; where nothing is proposed none was
+-- a round of questions. Each manager was asked once whether it acknowledges, or forced to, unless its receipt was in, and what each said stands at its
+-- place; where nothing is proposed none was asked, and all is as before. The number is complete exactly where each says that its receipt is kept, and
+-- then each history has its acknowledgement. The managers stay the same ones, in their order, and stood before as they have to
 pub record HasAskedAll {Decider Manager : Type 0} (decides : Decider → Decisions) (seen : Manager → Seen) (same : Manager → Manager → Type 0) (forced : Bool)
     (old new : Led Decider Manager) (said_before said : List Said) (result : AckAll) : Type 0 where
   pub answer : result ≡ ack_all_answer old.server.phase said

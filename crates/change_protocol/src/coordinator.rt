@@ -3,7 +3,6 @@
 ghost use Rattle.std.specs.Prelude.{◌≡◌, ◌<◌, ℕ, false, true, length, slice_get, is_some, IfSome};
 ghost use Rattle.access_vectors.specs.Phases.{is_pending};
 ghost use Rattle.managed.specs.Seen.{IsUpdated};
-ghost use Rattle.security_server.specs.Numbering.{is_in};
 ghost use Rattle.change_protocol.specs.Changes;
 
 use crate::answers::{AckAll, NotifyAllFault, Said};

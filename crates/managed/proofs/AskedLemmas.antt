@@ -10,7 +10,7 @@ use Rattle.manager_history.specs.declared.entry.Entry.{Entry}
 use Rattle.manager_history.specs.declared.entry.Entry.TheVariants.{Aborted}
 use Rattle.manager_history.specs.Answers.{Answer, Manager}
 use Rattle.manager_history.specs.Histories.{operation}
-use Rattle.managed.specs.Posts.{Post, acting_number, answer_on, asked_on, reply_on, entry_on, asked_in, last_asked, reply_in, last_reply}
+use Rattle.managed.specs.Posts.{Post, acting_number, answer_on, asked_on, entry_on, asked_in, last_asked, reply_in, last_reply}
 
 -- the last of a list that grew by one is what it grew by
 pub last_added : {X : Type 0} (xs : List X) (x : X) → slice_get (xs ++ x ∷ []) (length (xs ++ x ∷ []) - 1) ≡ Some x
@@ -33,7 +33,11 @@ asked_called plain d post client mark call history now added =
     rw (added, last_added history (entry_on plain d post client mark call))
     (asked_under client mark call number (answer_on plain d post client call) (is_aborted post.phase number))
 
--- and its reply stands there
+-- the reply that a client's call gets: an aborted one none
+abbrev pub reply_on : {Call Reply State : Type 0} → Manager Call Reply State → Decisions → Post State → ℕ → Call → Option Reply
+reply_on plain d post client call = if is_aborted post.phase (acting_number post client) then None else Some (answer_on plain d post client call).reply
+
+-- and below the call the reply stands there
 replied_under : {Call Reply State : Type 0} (caller mark : ℕ) (call : Call) (number : ℕ) (answer : Answer Reply State) (aborted : Bool)
     → reply_in (Some (if aborted then Aborted caller mark call number else operation caller mark call number answer)) ≡ (if aborted then None else Some answer.reply)
 replied_under caller mark call number answer true = refl

@@ -53,10 +53,6 @@ said_on plain d post client call = said_at plain d post.state post.phase client 
 abbrev pub asked_on : {Call Reply State : Type 0} → Manager Call Reply State → Decisions → Post State → ℕ → Call → List Asked
 asked_on plain d post client call = if is_aborted post.phase (acting_number post client) then [] else (answer_on plain d post client call).asked
 
--- the reply that a client's call gets: an aborted one none
-abbrev pub reply_on : {Call Reply State : Type 0} → Manager Call Reply State → Decisions → Post State → ℕ → Call → Option Reply
-reply_on plain d post client call = if is_aborted post.phase (acting_number post client) then None else Some (answer_on plain d post client call).reply
-
 -- the entry that a client's call adds to the history
 abbrev pub entry_on : {Call Reply State : Type 0} → Manager Call Reply State → Decisions → Post State → ℕ → ℕ → Call → Entry Call Reply
 entry_on plain d post client mark call = entry_at plain d post.state post.phase client mark call (acting_number post client)
@@ -88,7 +84,7 @@ asked_in (Some (entry.Notice number version)) = []
 asked_in (Some (entry.Ack number)) = []
 asked_in (Some (entry.Forced number)) = []
 
--- what the newest entry of a history asked
+-- what the newest entry of a history asked; nothing where it is no operation
 unfoldable pub last_asked : {Call Reply : Type 0} → List (Entry Call Reply) → List Asked
 last_asked history = asked_in (slice_get history (length history - 1))
 
@@ -101,7 +97,7 @@ reply_in (Some (entry.Notice number version)) = None
 reply_in (Some (entry.Ack number)) = None
 reply_in (Some (entry.Forced number)) = None
 
--- the reply that stands in the newest entry of a history
+-- the reply that stands in the newest entry of a history; none where it is no operation
 unfoldable pub last_reply : {Call Reply : Type 0} → List (Entry Call Reply) → Option Reply
 last_reply history = reply_in (slice_get history (length history - 1))
 

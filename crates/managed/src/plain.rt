@@ -1,6 +1,6 @@
 //! A manager on one thread: its keeper, and the passes that its clients hold.
 
-ghost use Rattle.std.specs.Prelude.{◌≡◌, ◌+◌, ◌-◌, ◌<◌, ◌≤◌, false, true, [], ◌∷◌, ◌++◌, length, take, drop, replicate, min, None, IfOk, IfErr, OnOk, OnErr};
+ghost use Rattle.std.specs.Prelude.{◌≡◌, ◌+◌, ◌-◌, ◌<◌, ◌≤◌, false, true, [], ◌∷◌, ◌++◌, length, take, drop, replicate, None, IfOk, IfErr, OnOk, OnErr};
 ghost use Rattle.std.specs.Option.{option_copied};
 ghost use Rattle.access_vectors.specs.Asking.{counted};
 ghost use Rattle.access_vectors.specs.Notices.{notice_fault, IsRefusal};

@@ -11,17 +11,6 @@ use std::alloc::Global;
 use std::marker::Model;
 use std::sync::ledger::Ledger;
 
-/// Adds an entry, for which there is room.
-#[inline(always)]
-fn add<K: Drop, R: Drop>(entries: &mut Vec<Entry<K, R>>, entry: Entry<K, R>)
-    requires { vec_len entries.old < vec_capacity entries.old }
-    ensures added { entries.new.items ≡ entries.old.items ++ entry ∷ [] }
-    ensures len { vec_len entries.new ≡ vec_len entries.old + 1 }
-    ensures room { vec_capacity entries.old ≤ vec_capacity entries.new }
-{
-    entries.push_reserved(entry);
-}
-
 /// Adds that a caller's call under a policy number was aborted, for which there is room.
 #[inline(always)]
 fn add_aborted<K: Drop, R: Drop>(
@@ -42,7 +31,7 @@ fn add_aborted<K: Drop, R: Drop>(
         call,
         number,
     };
-    add(entries, entry);
+    entries.push_reserved(entry);
 }
 
 /// A core with its history. Contracts see the core, the decider, the manager's number, the phase and the history,
@@ -168,7 +157,7 @@ impl<'d, C: Core, D: Decider> Keeper<'d, C, D> {
         let (kept, reply) = self
             .core
             .call(alloc, caller, &call, number, asker, &mut asked)?;
-        let entry = Entry::Op {
+        let operation = Entry::Op {
             caller,
             mark,
             call,
@@ -176,7 +165,7 @@ impl<'d, C: Core, D: Decider> Keeper<'d, C, D> {
             asked,
             reply: kept,
         };
-        add(&mut self.entries, entry);
+        self.entries.push_reserved(operation);
         Ok(Answer::Did(reply))
     }
 
@@ -233,7 +222,7 @@ impl<'d, C: Core, D: Decider> Keeper<'d, C, D> {
             number,
             version: ver,
         };
-        add(&mut self.entries, notice);
+        self.entries.push_reserved(notice);
         Ok(number)
     }
 
@@ -342,7 +331,7 @@ impl<'d, C: Core, D: Decider> Keeper<'d, C, D> {
         } else {
             Entry::Ack { number }
         };
-        add(&mut self.entries, entry);
+        self.entries.push_reserved(entry);
         Ack::Done(Receipt {
             manager: self.manager,
             number,

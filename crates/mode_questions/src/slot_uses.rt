@@ -4,7 +4,7 @@ ghost use Rattle.std.specs.Prelude.{◌≡◌, ◌++◌, IfOk, OnOk};
 ghost use Rattle.mode_questions.specs.Requests.{judging};
 
 use crate::operation::Operation;
-use access_vectors::{Asked, Asker, Class, Perm, Questions, Vector};
+use access_vectors::{Asked, Asker, Class, Perm, Questions, Vector, ask};
 use flask_sid::{Memory, Sid};
 
 /// What a slot of the caller gives: the label of its object, its mode, the usable bits of the mode, and the policy number that
@@ -34,13 +34,13 @@ impl<'a, A: Asker> Operation<'a, A> {
             usage.number ≡ r.number → usage.bits ≡ bit_and usage.mode (r.decisions.vector r.version r.subject usage.t perm.class) }
         ensures { let r = request self.old in IsUseAnswered (usage.number == r.number) result self.old self.new (question_of r usage.t perm) }
     {
+        let s = self.caller.subject;
+        let t = usage.t;
         if usage.number != self.caller.number {
-            let yes = self.ask(usage.t, perm)?;
+            let yes = ask(self.asker, self.asked, s, t, perm)?;
             return Ok(yes);
         }
         let yes = usage.bits.has(perm.index());
-        let s = self.caller.subject;
-        let t = usage.t;
         self.asked.add(Asked { s, t, perm, yes })?;
         Ok(yes)
     }

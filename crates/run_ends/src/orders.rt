@@ -1,4 +1,4 @@
-//! Tests of threaded runs whose order is forced: a worker is held before one line until another line was reached.
+//! Tests of threaded runs whose order is forced: before each line its worker is held until the line that goes before it was reached.
 
 use access_vectors::Decider;
 use epoch_gate::Seat;
@@ -14,22 +14,16 @@ use std::test::Fail;
 use std::thread::Threads;
 
 /// How often a held worker looks before it gives up.
-const TURNS: u32 = 10_000_000;
-
-/// A line before which its worker waits, and the line that has to answer first.
-#[derive(Clone, Copy, Debug)]
-struct Hold {
-    held: u32,
-    until: u32,
-}
+const TURNS: u32 = 100_000_000;
 
 /// The administrator, where a line's worker is told by a client's number.
 const ADMINISTRATOR: u8 = 255;
 
-/// Holds workers, and notes which lines began and which answered, by one bit a line from the first line of the run on.
+/// Holds each worker until it is its line's turn, and notes which lines began and which answered, by one bit a line from the first line of
+/// the run on.
 #[derive(Drop)]
 struct Order<'h> {
-    holds: &'h [Hold],
+    lines: &'h [u32],
     text: &'h [u8],
     first: u32,
     begun: AtomicU64,
@@ -38,10 +32,10 @@ struct Order<'h> {
 }
 
 impl<'h> Order<'h> {
-    /// Of a session whose first line that runs has this number.
-    fn new(text: &'h [u8], first: u32, holds: &'h [Hold]) -> Order<'h> {
+    /// Of a session whose first line that runs has this number. The lines stand in the order in which they have to go.
+    fn new(text: &'h [u8], first: u32, lines: &'h [u32]) -> Order<'h> {
         Order {
-            holds,
+            lines,
             text,
             first,
             begun: AtomicU64::new(0),
@@ -57,6 +51,12 @@ impl<'h> Order<'h> {
 
     fn has_answered(&self, line: u32) -> bool {
         self.answered.load(Ordering::SeqCst) & self.bit(line) != 0
+    }
+
+    /// The line that goes before a line, if there is one.
+    fn line_before(&self, line: u32) -> Option<u32> {
+        let place = self.lines.iter().position(|other| *other == line)?;
+        self.lines.get(place.checked_sub(1)?).copied()
     }
 
     fn wait_for(&self, line: u32) {
@@ -97,10 +97,8 @@ fn line_at(text: &[u8], number: u32) -> &[u8] {
 
 impl Stops for Order<'_> {
     fn before<R>(&self, _rt: &R, client: u8, line: u32) {
-        for hold in self.holds {
-            if hold.held == line {
-                self.wait_for(hold.until);
-            }
+        if let Some(earlier) = self.line_before(line) {
+            self.wait_for(earlier);
         }
         self.note(&self.begun, client, line);
     }
@@ -185,17 +183,8 @@ fn run<R: Threads + Wait + Sync>(
 
 #[test]
 fn a_read_behind_the_change_is_denied(rt: HostRuntime) -> Result<(), Fail> {
-    let holds = [
-        Hold {
-            held: 13,
-            until: 12,
-        },
-        Hold {
-            held: 16,
-            until: 15,
-        },
-    ];
-    let order = Order::new(CHANGE, 12, &holds);
+    let lines = [12, 13, 14, 15, 16];
+    let order = Order::new(CHANGE, 12, &lines);
     let (status, sink) = run(&rt, rt.alloc(), CHANGE, &order);
     assert_eq!(rt; status, Status::Ok);
     assert_eq!(rt; sink.bytes(), READ_LAST);
@@ -205,11 +194,8 @@ fn a_read_behind_the_change_is_denied(rt: HostRuntime) -> Result<(), Fail> {
 
 #[test]
 fn a_client_that_comes_late_finds_the_new_policy(rt: HostRuntime) -> Result<(), Fail> {
-    let holds = [Hold {
-        held: 12,
-        until: 15,
-    }];
-    let order = Order::new(CHANGE, 12, &holds);
+    let lines = [13, 14, 15, 12, 16];
+    let order = Order::new(CHANGE, 12, &lines);
     let (status, sink) = run(&rt, rt.alloc(), CHANGE, &order);
     assert_eq!(rt; status, Status::Ok);
     assert_eq!(rt; sink.bytes(), ALL_LAST);
@@ -219,42 +205,12 @@ fn a_client_that_comes_late_finds_the_new_policy(rt: HostRuntime) -> Result<(), 
 
 #[test]
 fn a_day_in_another_order(rt: HostRuntime) -> Result<(), Fail> {
-    // Each of two clients waits for the other, so that neither could be run to its end before the other begins.
-    let holds = [
-        Hold {
-            held: 61,
-            until: 69,
-        },
-        Hold {
-            held: 76,
-            until: 62,
-        },
-    ];
-    let order = Order::new(DAY, 61, &holds);
+    let order = Order::new(DAY, 61, DAY_ORDER);
     let (status, sink) = run(&rt, rt.alloc(), DAY, &order);
     assert_eq!(rt; status, Status::Ok);
     assert!(rt; order.was_kept(54));
-    // In the history of files the held call stands behind the one that it waited for, and 40 of the lines that run are calls.
-    let before = place_of_line(sink.bytes(), b"69 smtpd file ");
-    let held = place_of_line(sink.bytes(), b"61 httpd file ");
-    assert!(rt; before.is_some());
-    assert!(rt; held.is_some());
-    assert!(rt; before.unwrap_or(0) < held.unwrap_or(0));
-    assert_eq!(rt; numbered_lines(sink.bytes()), 40);
+    assert_eq!(rt; sink.bytes(), DAY_ANSWER);
     Ok(())
-}
-
-/// How many lines stand above the first that begins with these bytes, if there is one.
-fn place_of_line(text: &[u8], front: &[u8]) -> Option<usize> {
-    text.split(|b| *b == b'\n')
-        .position(|line| line.starts_with(front))
-}
-
-/// How many lines begin with a digit, as those of calls do.
-fn numbered_lines(text: &[u8]) -> usize {
-    text.split(|b| *b == b'\n')
-        .filter(|line| line.first().is_some_and(|b| b.is_ascii_digit()))
-        .count()
 }
 
 /// A day of a web server, a mail server, a user and a backup, under three versions of a policy: lines 61 to 114 run.
@@ -372,4 +328,93 @@ admin update 100
 admin ack
 httpd port recv 0
 ann file list / 0
+";
+
+/// Another order of the day, in which each script keeps its own: clients wait for one another, so that none could be run to its end
+/// before the next begins, and one holds a pass while the policy changes.
+const DAY_ORDER: &[u32] = &[
+    70, 68, 69, 61, 71, 62, 72, 63, 64, 65, 66, 67, 76, 73, 75, 78, 79, 77, 81, 74, 82, 86, 83, 88,
+    87, 84, 80, 90, 91, 85, 92, 89, 93, 97, 94, 95, 98, 102, 101, 96, 107, 103, 106, 104, 108, 99,
+    109, 100, 114, 105, 110, 111, 112, 113,
+];
+
+/// What is printed of the day in this order; `tests/judge` finds it lawful.
+const DAY_ANSWER: &[u8] = b"history file
+70 ann file 0 denied file read
+68 smtpd file 0 done
+69 smtpd file 0 done
+61 httpd file 0 done
+71 ann file 0 names 1 index
+62 httpd file 0 data 7 welcome
+72 backup file 0 done
+63 httpd file 0 done
+64 httpd file 0 done
+65 httpd file 0 done
+66 httpd file 0 done
+67 httpd file 0 data 3 aXY
+73 backup file 0 data 2 k9
+74 backup file 0 stat sys:object_r:mail_t 6
+88 httpd file 0 done
+notice 1 1
+92 httpd file 0 data 3 aXY
+97 backup file 1 denied file read
+ack 1
+95 httpd file 1 denied file read
+notice 2 0
+96 httpd file 2 data 7 welcome
+107 smtpd file 2 denied file append
+ack 2
+notice 3 2
+114 ann file 3 names 4 key mail tmp www
+105 httpd file 3 denied file read
+ack 3
+history process
+82 httpd process 0 done
+83 backup process 0 done
+notice 1 1
+84 backup process 1 denied process ptrace
+ack 1
+85 ann process 1 denied process fork
+98 backup process 1 denied process ptrace
+notice 2 0
+101 backup process 2 done
+ack 2
+notice 3 2
+99 httpd process 3 denied process exit
+100 httpd process 3 denied process wait
+ack 3
+history port
+76 smtpd port 0 denied port name_bind
+75 httpd port 0 done
+78 ann port 0 done
+79 ann port 0 done
+77 smtpd port 0 done
+81 httpd port 0 data 3 GET
+notice 1 1
+80 ann port 1 denied port send
+ack 1
+89 ann port 1 denied port send
+notice 2 0
+106 ann port 2 done
+ack 2
+notice 3 2
+ack 3
+113 httpd port 3 denied port name_bind
+audit httpd 95 denied web:srv_r:httpd_t web:object_r:upload_t file read policy 1
+audit httpd 99 denied web:srv_r:httpd_t web:srv_r:cgi_t process exit policy 3
+audit httpd 100 denied web:srv_r:httpd_t web:srv_r:cgi_t process wait policy 3
+audit httpd 105 denied web:srv_r:httpd_t web:object_r:upload_t file read policy 3
+audit httpd 113 denied web:srv_r:httpd_t sys:object_r:http_port_t port name_bind policy 3
+audit smtpd 76 denied mail:srv_r:smtpd_t sys:object_r:http_port_t port name_bind policy 0
+audit smtpd 107 denied ops:adm_r:backup_t sys:object_r:mail_t file append policy 2
+audit ann 70 denied ann:user_r:user_t sys:object_r:web_t file read policy 0
+audit ann 80 denied ann:user_r:user_t sys:object_r:http_port_t port send policy 1
+audit ann 85 denied ann:user_r:user_t ann:user_r:user_t process fork policy 1
+audit ann 89 denied ann:user_r:user_t sys:object_r:http_port_t port send policy 1
+audit backup 72 granted ops:adm_r:backup_t sys:object_r:secret_t file read policy 0
+audit backup 73 granted ops:adm_r:backup_t sys:object_r:secret_t file read policy 0
+audit backup 84 denied ops:adm_r:backup_t web:srv_r:cgi_t process ptrace policy 1
+audit backup 97 denied ops:adm_r:backup_t sys:object_r:secret_t file read policy 1
+audit backup 98 denied ops:adm_r:backup_t web:srv_r:cgi_t process ptrace policy 1
+calls 40 denied 14 changes 3
 ";

@@ -7,7 +7,7 @@ ghost use Rattle.session_forms.specs.FirstFaults;
 
 use text_lines::{FaultKind, Refusal};
 
-/// The kind of two that is asked first.
+/// The one of two kinds that comes first in the order of kinds.
 #[tactic(auto, unfolding(crate::specs::FirstFaults::first_kind))]
 pub fn first_kind(one: FaultKind, other: FaultKind) -> FaultKind
     ensures { result ≡ FirstFaults.first_kind one other }
@@ -33,7 +33,7 @@ fn kind_place(kind: FaultKind) -> u8
     }
 }
 
-/// Both values, or the kind of fault that is asked first.
+/// Both values, or the kind of fault that comes first.
 #[inline(always)]
 pub fn both<A: Drop, B: Drop>(
     one: Result<A, FaultKind>,

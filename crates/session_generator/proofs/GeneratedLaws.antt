@@ -1,4 +1,4 @@
--- The session that is made of three numbers is what the reader makes of its text.
+-- The session that is made of three numbers is what the reader makes of its text, apart from the numbers of lines.
 use Rattle.std.proofs.Common.{◌≡◌, ◌∙◌, ◌+◌, ℕ, true, zero, suc, List, [], ◌∷◌, length, Option, Some, None, Result, Ok, Err, refl, ap, arith}
 use Rattle.std.specs.Prelude.{IfOk}
 use Rattle.std.proofs.lemmas.List.{length-map}

@@ -57,7 +57,7 @@ abbrev pub answer_with : {R : Type 0} → (R → Reply) → Option R → Answer 
 answer_with wrap (Some got) = Did (wrap got)
 answer_with wrap None = Aborted
 
--- what is lent from a history, as an answer
+-- what is lent of what a call got, as an answer
 abbrev pub got_answer : Got → Answer Reply
 got_answer (lent.File got) = Did (reply.File got.now)
 got_answer (lent.Process got) = Did (reply.Process got.now)
@@ -132,7 +132,8 @@ decider_of (File files) = files.keeper.decider
 decider_of (Process processes) = processes.keeper.decider
 decider_of (Port ports) = ports.keeper.decider
 
--- what a manager's newest call got and asked, by its history: where the newest entry is no call that was done, as where one was aborted
+-- what the newest entry of a manager's history tells: what its call got and asked; and where it is an aborted call, a notice or an acknowledgement, or
+-- there is none, as of an aborted call
 abbrev pub newest : {C R : Type 0} → (R → Reply) → List (Entry C R) → Told
 newest wrap history = record { answer = answer_with wrap (last_reply history); asked = last_asked history }
 
@@ -228,7 +229,7 @@ module _ {D : Type 0} (decides : D → Decisions) where
     pub opening : opening_of now ≡ opening_of was
     pub served : IsServed (seen was) (seen now)
 
-  -- a call was done: it stands in the history under the client's mark, with what it got and asked
+  -- a call was done: an operation of the client under its mark was added, with what the call got and asked
   pub record HasCalled (client mark : ℕ) (was : OneManager D) (asks : Call) (now : OneManager D) : Type 0 where
     pub told : Told
     pub tells : TellsCall (decides (decider_of was)) (place_of was) client asks told

@@ -46,20 +46,20 @@ use Rattle.session_managers.specs.contracts.acting.Reply as reply_type
 use Rattle.session_managers.specs.declared.acting.Reply.{Reply}
 use Rattle.session_managers.specs.declared.opening.Openings.{Openings}
 
--- what the newest call of each manager got and asked
+-- what the newest entry of each manager's history tells: what its call got and asked, or as of an aborted call where it is none that was done
 pub record LastTold : Type 0 where
   pub files : Told
   pub processes : Told
   pub ports : Told
 
--- before the first call, as where a call was aborted
+-- where the newest entry is no call that was done, and before the first entry: as where a call was aborted
 abbrev pub nothing_told : Told
 nothing_told = record { answer = Aborted; asked = [] }
 
 abbrev pub none_told : LastTold
 none_told = record { files = nothing_told; processes = nothing_told; ports = nothing_told }
 
--- what the newest call of one manager got and asked
+-- that of one manager
 abbrev pub told_of : LastTold → Manager → Told
 told_of told manager.File = told.files
 told_of told manager.Process = told.processes
@@ -90,7 +90,7 @@ number_of manager.File = 0
 number_of manager.Process = 1
 number_of manager.Port = 2
 
--- what contracts see of the managers of a session: where it stands, what decides, what the newest calls got and asked, the histories, and
+-- what contracts see of the managers of a session: where it stands, what decides, what the newest entries tell of calls, the histories, and
 -- whether every manager has the notice of the number that is proposed, if one is
 pub record Standing (Decider : Type 0) : Type 0 where
   pub state : SessionState

@@ -42,7 +42,7 @@ session_state_of managers calls denied changes = record {
   changes = changes;
 }
 
--- what the newest call of the manager of that number got and asked, and its history
+-- what the newest entry of the manager of that number tells, and its history
 abbrev pub told_at : {D : Type 0} → List (OneManager D) → ℕ → Told
 told_at managers number = unwrap_or (option_map one.last_told (slice_get managers number)) nothing_told
 

@@ -60,7 +60,8 @@ impl<'d, D: Decider> SessionManagers<'d, D> {
         one.phase().version_at(one.acting(client))
     }
 
-    /// What the newest call of a manager got.
+    /// What stands in the newest entry of a manager's history: after a call what it got. `Aborted` also after a notice or an
+    /// acknowledgement, and before the first call.
     #[inline(always)]
     pub fn got(&self, manager: Manager) -> Got<'_>
         ensures { One.got_answer result ≡ (SessionViews.told_of self.now.told manager).answer }
@@ -68,7 +69,7 @@ impl<'d, D: Decider> SessionManagers<'d, D> {
         self.changes.managers()[usize::from(number_of(manager))].last_got()
     }
 
-    /// What the newest call of a manager asked: one that was aborted nothing.
+    /// What was asked in the newest entry of a manager's history: nothing where it is no call that was done.
     #[inline(always)]
     pub fn asked(&self, manager: Manager) -> &[Asked]
         ensures { result.now ≡ (SessionViews.told_of self.now.told manager).asked }

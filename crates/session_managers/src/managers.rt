@@ -22,7 +22,7 @@ const MOST: u32 = 1_048_575;
 pub(crate) const MANAGERS: u8 = 3;
 
 /// The managers of a session on one thread under the coordinator of their changes, and the counts of the summary. Contracts see
-/// where the session stands by the definition of what is printed, what decides, what the newest calls got and asked, the histories as
+/// where the session stands by the definition of what is printed, what decides, what the newest entries tell of calls, the histories as
 /// the administrator sees them, and whether each manager has the notice of the number that is proposed.
 #[derive(Drop)]
 pub struct SessionManagers<'d, D: Decider> {

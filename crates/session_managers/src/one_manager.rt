@@ -50,7 +50,7 @@ impl<'d, D: Decider> OneManager<'d, D> {
         }
     }
 
-    /// What the newest call asked.
+    /// What was asked in the newest entry of its history: nothing where it is no call that was done.
     #[inline(always)]
     pub fn last_asked(&self) -> &[Asked]
         ensures { result.now ≡ (One.last_told self.now).asked }
@@ -62,7 +62,8 @@ impl<'d, D: Decider> OneManager<'d, D> {
         }
     }
 
-    /// What the newest call got.
+    /// What stands in the newest entry of its history: after a call what it got. `Aborted` also after a notice or an
+    /// acknowledgement, and before the first call.
     #[inline(always)]
     pub fn last_got(&self) -> Got<'_>
         ensures { One.got_answer result ≡ (One.last_told self.now).answer }

@@ -9,7 +9,8 @@ use Rattle.session_runner.specs.Underway.{MayRun}
 use Rattle.session_runner.specs.declared.opening.Opened.{Opened}
 use Rattle.session_runner.specs.declared.opening.RunParts.{RunParts}
 
--- a session was taken apart
+-- what a session is run from: what its managers are opened with; its lines, policy and clients, and whether audit lines are printed, as the
+-- session has them
 pub record AreRunParts (session : SessionParts) (parts : RunParts) : Type 0 where
   pub openings_are : parts.openings ≡ openings_of session
   pub lines_are : parts.lines.items ≡ session.lines

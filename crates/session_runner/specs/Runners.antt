@@ -4,7 +4,7 @@ use Rattle.std.specs.Coded.{Coded, code_by, coded×, coded_ℕ, coded_bool}
 use Rattle.session_managers.specs.SessionStates.{SessionState}
 use Rattle.session_managers.specs.SessionViews.{Standing, LastTold, HasClients, state_code, all_told_code}
 
--- where the session stands, what decides, what the newest calls got and asked, how many clients there are, and whether memory was wanting
+-- where the session stands, what decides, what the newest entries tell of calls, how many clients there are, and whether memory was wanting
 pub record Running (Decider : Type 0) : Type 0 where
   pub state : SessionState
   pub decider : Decider

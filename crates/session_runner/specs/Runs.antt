@@ -112,11 +112,11 @@ line_shown d state line = record { line = line.line; answer = answer_on d state 
 abbrev pub shown_told : ℕ → Caller → Answer Reply → List Asked → Shown
 shown_told line caller got asked = record { line = line; answer = answer.Replied caller.client caller.manager caller.number got; caller = Some caller; asked = asked }
 
--- where that is lent from a history
+-- where that is lent
 abbrev pub shown_call : Called → Shown
 shown_call called = shown_told called.line called.caller (got_answer called.got) called.asked.now
 
--- where it is what the newest call of the caller's manager got and asked
+-- where it is what the newest entry of the caller's manager tells
 abbrev pub shown_newest : LastTold → ℕ → Caller → Shown
 shown_newest told line caller = shown_told line caller (told_of told caller.manager).answer (told_of told caller.manager).asked
 

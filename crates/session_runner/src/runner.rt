@@ -19,8 +19,8 @@ use std::marker::Model;
 use std::sync::Wait;
 
 /// The managers of a session on one thread, and how many clients it has. Contracts see where the session stands, what decides,
-/// what the newest calls got and asked, the number of clients, and whether memory was wanting. The type keeps that the managers were opened
-/// with these clients, of whom there are at most 62, and that each manager has its notice.
+/// what the newest entries tell of calls, the number of clients, and whether memory was wanting. The type keeps that the managers were opened
+/// with these clients, of whom there are at most 62, and that each manager has its notice, unless memory was wanting.
 #[derive(Drop)]
 pub struct Runner<'d, D: Decider> {
     alloc: Global,
@@ -101,7 +101,7 @@ impl<'d, D: Decider> Runner<'d, D> {
         Ok(caller)
     }
 
-    /// What a caller's call, the newest of its manager, got and asked.
+    /// The call of a line: its caller, and what the newest entry of the caller's manager tells.
     #[inline(always)]
     pub(crate) fn called(&self, line: u32, caller: Caller) -> Called<'_>
         ensures { Runs.shown_call result ≡ Runs.shown_newest self.now.told line caller }

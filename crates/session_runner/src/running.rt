@@ -1,6 +1,6 @@
 //! The lines of a session, run one after another.
 
-ghost use Rattle.std.specs.Prelude.{◌≡◌, ℕ, ◌+◌, ◌<◌, ◌^◌, true, false, None, IsTrue, OnOk, IfErr};
+ghost use Rattle.std.specs.Prelude.{◌≡◌, ◌⊎◌, ℕ, ◌+◌, ◌<◌, ◌^◌, true, false, None, IsTrue, IsErrAnd, OnOk, IfErr};
 ghost use Rattle.flask_sid.specs.declared.memory.Memory.{Memory};
 ghost use Rattle.session_text.specs.Sessions.{IsRun};
 ghost use Rattle.session_runner.specs.Runs;
@@ -36,7 +36,11 @@ impl<'d, D: Decider> Runner<'d, D> {
         ensures serving { (clients : ℕ) → E.serves recorder.old clients → E.serves recorder.new clients }
         ensures state { OnOk result (self.new.state ≡ Runs.state_after (D.decides self.old.decider) self.old.state line.run) }
         ensures same { IsSameRun self.old self.new }
-        ensures stays { self.old.stopped ≡ true → IfErr result (λ stop. (memory : Memory) × E.Stop.from_gives memory stop) }
+        ensures going { OnOk result (self.new.stopped ≡ false) }
+        ensures wants { IfErr result (λ stop. (self.new.stopped ≡ true)
+            ⊎ E.stops recorder.old out.old (Runs.line_shown (D.decides self.old.decider) self.old.state line) out.new stop) }
+        ensures stays { self.old.stopped ≡ true → IsErrAnd result (λ stop. (memory : Memory) × E.Stop.from_gives memory stop)
+            × (self.new ≡ self.old) × (recorder.new ≡ recorder.old) × (out.new ≡ out.old) }
     {
         if self.stopped {
             return Err(Memory.into());
@@ -70,6 +74,9 @@ impl<'d, D: Decider> Runner<'d, D> {
         ensures serving { (clients : ℕ) → E.serves recorder.old clients → E.serves recorder.new clients }
         ensures state { OnOk result (self.new.state ≡ Runs.state_after (D.decides self.old.decider) self.old.state line.run) }
         ensures same { IsSameRun self.old self.new }
+        ensures going { OnOk result (self.new.stopped ≡ false) }
+        ensures wants { IfErr result (λ stop. (self.new.stopped ≡ true)
+            ⊎ E.stops recorder.old out.old (Runs.line_shown (D.decides self.old.decider) self.old.state line) out.new stop) }
     {
         let RunLine { line, run } = line;
         let answer = self.answer(rt, run)?;
