@@ -5,8 +5,8 @@ same summary. The plain one keeps no session for it, so making one is measured a
 lines that run, of all calls, below 16 clients and 40 files and directories. Both programs read it, or print what they read,
 many times; what they made or read they must print as the same bytes.
 
-Of `flaskd` alone it is measured how long, by the clock, the smallest session's first answer takes, and what memory a session of as many reads of
-1,024 bytes as there may be lines takes at most.
+Of `flaskd` alone it is measured how long, by the clock, the smallest session's first answer takes; what memory a session of as many reads of
+1,024 bytes as there may be lines takes at most; and how long two texts with many names take to read, which are refused for their last line.
 """
 
 import os
@@ -158,6 +158,42 @@ def full_memory(program):
     return usage.ru_maxrss
 
 
+DIRECTORIES, FILES, CONTEXTS = 63, 4_032, 4_000
+REFUSED = 3
+
+
+def tree_text():
+    """A session of 4,095 files and directories, whose last line has a fault."""
+    lines = ["policy 1", "context u:r:t", "version", "session"]
+    lines += [f"dir /directory{at} u:r:t" for at in range(DIRECTORIES)]
+    lines += [f"file /directory{at % DIRECTORIES}/file{at} u:r:t hello" for at in range(FILES)]
+    return "\n".join([*lines, "client alice u:r:t", "run", "bob file close 0"]) + "\n"
+
+
+def relabel_text():
+    """A session of 4,000 relabels over 4,000 contexts, whose last line has a fault."""
+    lines = ["policy 1", *(f"context user{at}:r:t" for at in range(CONTEXTS)), "version", "session"]
+    lines += ["file /a user0:r:t", "client alice user0:r:t", "run"]
+    lines += [f"alice file relabel /a user{at * 7 % CONTEXTS}:r:t" for at in range(CONTEXTS)]
+    return "\n".join([*lines, "bob file close 0"]) + "\n"
+
+
+def read_times(program, session, runs):
+    """Nanoseconds of a processor that a whole run takes which reads a session and refuses it, the program's start with it."""
+    found = []
+    with tempfile.TemporaryFile() as source:
+        source.write(session.encode())
+        for _ in range(runs):
+            source.seek(0)
+            child = subprocess.Popen([program, "serial"], stdin=source, stdout=subprocess.DEVNULL, stderr=subprocess.DEVNULL)
+            _, status, usage = os.wait4(child.pid, 0)
+            child.returncode = os.waitstatus_to_exitcode(status)
+            if child.returncode != REFUSED:
+                sys.exit(f"bench: a session with a fault ended with {child.returncode}")
+            found.append((usage.ru_utime + usage.ru_stime) * 1e9)
+    return found
+
+
 def generated(program, lines):
     """The summary of a made session, and the nanoseconds of a processor that the whole program took."""
     words = [str(program), "generate", "7", "8", str(lines)]
@@ -205,11 +241,15 @@ def measure(programs, asked):
     ):
         row(name, *timing.both(programs, (work, ROUNDS), ROUNDS * pieces, asked.runs, session))
     if flaskd.exists():
-        alone(flaskd)
+        alone(flaskd, asked.runs)
 
 
-def alone(flaskd):
+def alone(flaskd, runs):
     """What is measured of `flaskd` alone."""
+    print()
+    timing.head("the whole program", "proved, best / median, ms", "plain Rust", "ratio of medians")
+    for name, session in (("4,095 files and directories read", tree_text()), ("4,000 relabels over 4,000 contexts read", relabel_text())):
+        timing.row(f"{name}, {len(session) // 1000} KB", timing.shown(read_times(flaskd, session, runs), 1_000_000, 2), "", "")
     print()
     timing.head("the whole program", "proved, best / median, ms by the clock", "plain Rust", "ratio of medians")
     timing.row("the smallest session's first answer", timing.shown(first_answers(flaskd), digits=2), "", "")
