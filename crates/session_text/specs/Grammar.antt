@@ -1,5 +1,5 @@
 -- What a line of a session text asks of the lines above it, and what it adds to them.
-use Rattle.std.specs.Prelude.{ℕ, Bool, true, false, ◌||◌, not, ◌==◌, nat_le, List, [], ◌∷◌, ◌++◌, length, Option, Some, None, Result, Ok, Err, if◌then◌else◌, codes}
+use Rattle.std.specs.Prelude.{◌≡◌, ℕ, Bool, true, false, ◌||◌, not, ◌==◌, nat_le, List, [], ◌∷◌, ◌++◌, length, Option, Some, None, Result, Ok, Err, if◌then◌else◌, codes}
 use Rattle.std.specs.Str.{bytes_eq}
 use Rattle.flask_sid.specs.Names.{is_name_form, is_long}
 use Rattle.flask_sid.specs.Contexts.{is_long_context}
@@ -214,6 +214,11 @@ asked_run session name manager (call ∷ words) =
 unfoldable pub client_run : SessionParts → List ℕ → List (List ℕ) → Result Run FaultKind
 client_run session name [] = Err Syntax
 client_run session name (word ∷ words) = found_or Syntax (manager_of word) >>= λ manager. asked_run session name manager words
+
+-- behind the client's name stand the manager that it asks and the word of what it asks, or the line is faulty
+abbrev pub IsAskedBy : Result (Manager × List ℕ) FaultKind → List ℕ → List (List ℕ) → List (List ℕ) → Type 0
+IsAskedBy asked name words below =
+    (session : SessionParts) → (if is_name_form name then client_run session name words else Err Syntax) ≡ (asked >>= λ said. asked_run session name said.0 (said.1 ∷ below))
 
 -- a line of the administrator
 unfoldable pub admin_run : List (List ℕ) → Result Run FaultKind

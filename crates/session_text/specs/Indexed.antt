@@ -8,6 +8,7 @@ use Rattle.session_text.specs.declared.session.ClientLine.{ClientLine}
 use Rattle.session_text.specs.declared.session.SessionParts.{SessionParts}
 use Rattle.session_text.specs.Passes.{AreHeld}
 use Rattle.session_text.specs.Progress.{IsSetUp}
+use Rattle.session_text.specs.Sessions.{IsSession}
 
 -- the names of clients, in their order
 abbrev pub names_of : List ClientLine → List (List ℕ)
@@ -26,6 +27,7 @@ pub record IsSetUpBy (session : SessionParts) (context_index : List (ContextOf (
 
 -- a session whose lines run, the passes that its clients hold, and the indexes of its contexts and clients
 pub record IsRunningBy (session : SessionParts) (table : List ClientPasses) (context_index : List (ContextOf (List ℕ))) (client_index : List (List ℕ)) : Type 0 where
+  pub kept : IsSession session
   pub held : AreHeld table (length session.clients) session.lines
   pub contexts : context_index ≡ contexts_in session.policy.contexts
   pub clients : client_index ≡ names_of session.clients

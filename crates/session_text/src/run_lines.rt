@@ -2,7 +2,6 @@
 
 ghost use Rattle.std.specs.Prelude.{◌≡◌};
 ghost use Rattle.text_lines.specs.Refusals.{Gives};
-ghost use Rattle.session_text.specs.Calls;
 ghost use Rattle.session_text.specs.Grammar;
 
 use crate::calls::{client_of, file_call, port_call, process_call};
@@ -15,24 +14,67 @@ use session_forms::{
 use std::alloc::Global;
 use text_lines::{FaultKind, Refusal, Words};
 
-/// What a line that runs asks, by its first word.
-#[tactic(auto, unfolding(crate::specs::Grammar::run_of))]
+/// What a line that runs asks, by its first word: a line of the administrator, or what a client of that name asks of a
+/// manager, which is a pass, to give it back, or a call.
+#[tactic(auto, unfolding(crate::specs::Grammar::run_of, crate::specs::Grammar::asked_run, crate::specs::Grammar::call_run))]
 pub(crate) fn run_of<'a>(
     alloc: Global,
     running: &Running<'a>,
     first: &Word<'a>,
-    words: Words<'a>,
+    mut words: Words<'a>,
 ) -> Result<Run, Refusal>
     ensures { Gives result (Grammar.run_of running.now first.now words.entry) }
 {
     if first.is(b"admin") {
         return judged(admin_run(words));
     }
-    if first.is_name_form() {
-        client_run(alloc, running, first, words)
-    } else {
-        Err(Refusal::Fault(FaultKind::Syntax))
+    let (manager, call) = judged(asked_of(first, &mut words))?;
+    if call.is(b"begin") {
+        return judged(begin_run(running, first, manager, words));
     }
+    if call.is(b"end") {
+        return judged(end_run(running, first, manager, words));
+    }
+    let client = client_of(running, first);
+    match manager {
+        Manager::File => {
+            let (client, call) = both_made(client, file_call(alloc, running, &call, words))?;
+            Ok(Run::File { client, call })
+        }
+        Manager::Process => {
+            let (client, call) = judged(both(client, process_call(running, &call, words)))?;
+            Ok(Run::Process { client, call })
+        }
+        Manager::Port => {
+            let (client, call) = both_made(client, port_call(alloc, &call, words))?;
+            Ok(Run::Port { client, call })
+        }
+    }
+}
+
+/// The manager that a client of that name asks, and the word of what it asks. `Syntax` where the name has not the form of
+/// one, and where no name of a manager and no word stand behind it.
+#[tactic(auto, unfolding(crate::specs::Grammar::client_run, crate::specs::Grammar::asked_run))]
+#[inline(always)]
+fn asked_of<'a>(
+    name: &Word<'a>,
+    words: &mut Words<'a>,
+) -> Result<(Manager, Word<'a>), FaultKind>
+    ensures { Grammar.IsAskedBy result name.now words.old words.new }
+{
+    if !name.is_name_form() {
+        return Err(FaultKind::Syntax);
+    }
+    let Some(word) = words.next() else {
+        return Err(FaultKind::Syntax);
+    };
+    let Some(manager) = manager_of(&word) else {
+        return Err(FaultKind::Syntax);
+    };
+    let Some(call) = words.next() else {
+        return Err(FaultKind::Syntax);
+    };
+    Ok((manager, call))
 }
 
 /// A line of the administrator.
@@ -68,53 +110,6 @@ fn alone(words: Words<'_>, run: Run) -> Result<Run, FaultKind>
         Ok(run)
     } else {
         Err(FaultKind::Syntax)
-    }
-}
-
-/// A line of a client of that name: a manager, and what is asked of it.
-#[tactic(auto, unfolding(crate::specs::Grammar::client_run))]
-fn client_run<'a>(
-    alloc: Global,
-    running: &Running<'a>,
-    name: &Word<'a>,
-    mut words: Words<'a>,
-) -> Result<Run, Refusal>
-    ensures { Gives result (Grammar.client_run running.now name.now words.entry) }
-{
-    let Some(manager) = words.next() else {
-        return Err(Refusal::Fault(FaultKind::Syntax));
-    };
-    match manager_of(&manager) {
-        None => Err(Refusal::Fault(FaultKind::Syntax)),
-        Some(manager) => asked_run(alloc, running, name, manager, words),
-    }
-}
-
-/// What a client of that name asks of a manager: a pass, to give it back, or a call.
-#[tactic(auto, unfolding(crate::specs::Grammar::asked_run, crate::specs::Grammar::call_run))]
-fn asked_run<'a>(
-    alloc: Global,
-    running: &Running<'a>,
-    name: &Word<'a>,
-    manager: Manager,
-    mut words: Words<'a>,
-) -> Result<Run, Refusal>
-    ensures { Gives result (Grammar.asked_run running.now name.now manager words.entry) }
-{
-    let Some(call) = words.next() else {
-        return Err(Refusal::Fault(FaultKind::Syntax));
-    };
-    if call.is(b"begin") {
-        return judged(begin_run(running, name, manager, words));
-    }
-    if call.is(b"end") {
-        return judged(end_run(running, name, manager, words));
-    }
-    let client = client_of(running, name);
-    match manager {
-        Manager::File => file_run(alloc, running, client, &call, words),
-        Manager::Process => judged(process_run(running, client, &call, words)),
-        Manager::Port => port_run(alloc, client, &call, words),
     }
 }
 
@@ -156,44 +151,4 @@ fn end_run<'a>(
     }
     let client = client_of(running, name)?;
     Ok(Run::End { client, manager })
-}
-
-/// A call of the file manager, with what is known of its client.
-fn file_run<'a>(
-    alloc: Global,
-    running: &Running<'a>,
-    client: Result<u8, FaultKind>,
-    call: &Word<'a>,
-    words: Words<'a>,
-) -> Result<Run, Refusal>
-    ensures { Gives result (Grammar.file_run client (Calls.file_call running.now.policy.contexts running.now.clients call.now words.entry)) }
-{
-    let (client, call) = both_made(client, file_call(alloc, running, call, words))?;
-    Ok(Run::File { client, call })
-}
-
-/// A call of the process manager, with what is known of its client.
-fn process_run<'a>(
-    running: &Running<'a>,
-    client: Result<u8, FaultKind>,
-    call: &Word<'a>,
-    words: Words<'a>,
-) -> Result<Run, FaultKind>
-    ensures { result ≡ Grammar.process_run client (Calls.process_call running.now.policy.contexts call.now words.entry) }
-{
-    let (client, call) = both(client, process_call(running, call, words))?;
-    Ok(Run::Process { client, call })
-}
-
-/// A call of the port manager, with what is known of its client.
-fn port_run(
-    alloc: Global,
-    client: Result<u8, FaultKind>,
-    call: &Word<'_>,
-    words: Words<'_>,
-) -> Result<Run, Refusal>
-    ensures { Gives result (Grammar.port_run client (Calls.port_call call.now words.entry)) }
-{
-    let (client, call) = both_made(client, port_call(alloc, call, words))?;
-    Ok(Run::Port { client, call })
 }

@@ -7,7 +7,7 @@ ghost use Rattle.session_text.specs.Sessions.{IsSidOf, MayLine};
 
 use crate::look_up::{client_number, context_sid};
 use crate::passes::{PassChange, PassTable};
-use crate::session::{ClientLine, Run, Session};
+use crate::session::{ClientLine, Run, RunLine, Session, SessionParts};
 use crate::setup::Setup;
 use flask_sid::{ContextOf, Memory, Sid, Word};
 use policy_model::Guesses;
@@ -21,7 +21,7 @@ use text_lines::WordIndex;
 /// and the names of clients, nearly each of which is found at a guess. Contracts see the session.
 #[derive(Drop)]
 pub(crate) struct Running<'a> {
-    session: Session,
+    parts: SessionParts,
     held: PassTable,
     contexts: ContextIndex<'a>,
     clients: WordIndex<'a>,
@@ -34,9 +34,9 @@ impl<'a> Model for Running<'a> {
 
     ghost Value = { SessionParts };
 
-    ghost view = { λ running. running.session };
+    ghost view = { λ running. running.parts };
 
-    ghost invariant = { λ running. IsRunningBy running.session running.held running.contexts running.clients };
+    ghost invariant = { λ running. IsRunningBy running.parts running.held running.contexts running.clients };
 }
 
 impl<'a> Running<'a> {
@@ -49,7 +49,7 @@ impl<'a> Running<'a> {
         let held = PassTable::none_held(alloc, session.clients().len())?;
         let guesses = guesses_of(session.clients());
         Ok(Running {
-            session,
+            parts: session.into_parts(),
             held,
             contexts,
             clients,
@@ -62,13 +62,13 @@ impl<'a> Running<'a> {
         ensures { result ≡ self.entry }
     {
         let Running {
-            session,
+            parts,
             held: _,
             contexts: _,
             clients: _,
             guesses: _,
         } = self;
-        session
+        Session::of(parts)
     }
 
     /// The identifier of a declared context.
@@ -97,7 +97,7 @@ impl<'a> Running<'a> {
         ensures within { IfSome result (λ number. number < length self.now.clients) }
     {
         let place = self.guesses.place(name.as_bytes());
-        let client = self.session.parts().clients.get(place)?;
+        let client = self.parts.clients.get(place)?;
         if client.name.is(name) {
             Some(place as u8)
         } else {
@@ -124,7 +124,7 @@ impl<'a> Running<'a> {
         ensures err { OnErr result (self.new ≡ self.old) }
     {
         let change = PassChange::of(&run);
-        self.session.add_line(line, run)?;
+        self.parts.lines.push(RunLine { line, run })?;
         self.held.note(change);
         Ok(())
     }

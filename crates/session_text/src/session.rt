@@ -1,11 +1,10 @@
 //! Sessions, as their texts give them.
 
-ghost use Rattle.std.specs.Prelude.{◌≡◌, ◌≤◌, length, OnOk, OnErr};
-ghost use Rattle.session_text.specs.Grammar;
-ghost use Rattle.session_text.specs.Sessions.{IsSession, MayLine};
+ghost use Rattle.std.specs.Prelude.{◌≡◌, ◌≤◌, length};
+ghost use Rattle.session_text.specs.Sessions.{IsSession};
 
 use file_calls::{FileCall, Node};
-use flask_sid::{Memory, Name, Rows, Sid};
+use flask_sid::{Name, Rows, Sid};
 use policy_model::PolicyText;
 use port_calls::{LabelledPort, PortCall};
 use process_calls::ProcessCall;
@@ -121,16 +120,5 @@ impl Session {
     {
         let Session { parts } = self;
         parts
-    }
-
-    /// Adds a line that runs. After `Memory` the session is as before.
-    #[inline(always)]
-    pub(crate) fn add_line(&mut self, line: u32, run: Run) -> Result<(), Memory>
-        requires { MayLine self.old.policy.contexts self.old.clients self.old.lines (record { line = line; run = run }) }
-        ensures ok { OnOk result (self.new ≡ Grammar.with_line line run self.old) }
-        ensures err { OnErr result (self.new ≡ self.old) }
-    {
-        self.parts.lines.push(RunLine { line, run })?;
-        Ok(())
     }
 }

@@ -1,8 +1,0 @@
-use Rattle.session_text.proofs.Growth.{line_grows}
-use Rattle.session_text.proofs.session.Session.add_line.Goals as goal
-
-pub invariant_of-self : goal.invariant_of-self
-invariant_of-self c = rw c.in_err-push.ensures.err c.self.invariant
-
-pub invariant_of-self-2 : goal.invariant_of-self-2
-invariant_of-self-2 c = rw c.in_ok-push.ensures.ok (line_grows c.args.line c.args.run c.self.inside.parts c.self.invariant (rw (← c.self.view_is) at c.requires))
