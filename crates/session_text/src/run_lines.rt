@@ -56,10 +56,7 @@ pub(crate) fn run_of<'a>(
 /// one, and where no name of a manager and no word stand behind it.
 #[tactic(auto, unfolding(crate::specs::Grammar::client_run, crate::specs::Grammar::asked_run))]
 #[inline(always)]
-fn asked_of<'a>(
-    name: &Word<'a>,
-    words: &mut Words<'a>,
-) -> Result<(Manager, Word<'a>), FaultKind>
+fn asked_of<'a>(name: &Word<'a>, words: &mut Words<'a>) -> Result<(Manager, Word<'a>), FaultKind>
     ensures { Grammar.IsAskedBy result name.now words.old words.new }
 {
     if !name.is_name_form() {
