@@ -1,6 +1,6 @@
 //! A source and a sink over std's streams.
 
-ghost use Rattle.std.specs.Prelude.{◌≡◌, ◌<◌, ◌≤◌, length, None, IfSome};
+ghost use Rattle.std.specs.Prelude.{None};
 
 use crate::{Got, Put, Sink, Source};
 use std::io::{Error, ErrorKind, Read, Write};
@@ -24,15 +24,18 @@ impl<R: Read + Drop> Source for ReaderSource<R> {
 
     ghost faults = { λ s. s.faults };
 
+    /// Reads into the front of the buffer, where an interrupted read is tried again.
     fn read(&mut self, buf: &mut [u8]) -> Got {
-        match filled(&mut self.reader, buf) {
-            Some(0) => Got::End,
-            Some(n) => Got::Bytes(n),
-            None => {
-                self.faults = self.faults.saturating_add(1);
-                Got::Failed
+        'tries: for _ in 0..u64::MAX {
+            match self.reader.read(buf) {
+                Ok(0) => return Got::End,
+                Ok(n) => return Got::Bytes(n),
+                Err(e) if is_interrupted(&e) => continue,
+                Err(_) => break,
             }
         }
+        self.faults = self.faults.saturating_add(1);
+        Got::Failed
     }
 }
 
@@ -58,56 +61,20 @@ impl<W: Write + Drop> Sink for WriterSink<W> {
 
     ghost faults = { λ s. s.faults };
 
+    /// Offers the piece, where an interrupted write is tried again, and flushes what was taken of it.
     fn write(&mut self, piece: &[u8]) -> Put {
-        match taken(&mut self.writer, piece) {
-            Some(n) => Put::Took(n),
-            None => {
-                self.faults = self.faults.saturating_add(1);
-                Put::Failed
+        'tries: for _ in 0..u64::MAX {
+            match self.writer.write(piece) {
+                Ok(n) if n > 0 && self.writer.flush().is_ok() => return Put::Took(n),
+                Err(e) if is_interrupted(&e) => continue,
+                _ => break,
             }
         }
+        self.faults = self.faults.saturating_add(1);
+        Put::Failed
     }
 }
 
 fn is_interrupted(e: &Error) -> bool {
     e.kind() == ErrorKind::Interrupted
-}
-
-/// How many bytes the reader put into the buffer, 0 at its end; `None` where it failed.
-fn filled<R: Read>(reader: &mut R, buf: &mut [u8]) -> Option<usize>
-    ensures { IfSome result (λ n. n ≤ length buf.new) }
-{
-    for _ in 0..u64::MAX {
-        match reader.read(buf) {
-            Ok(n) => return Some(n),
-            Err(e) => {
-                if !is_interrupted(&e) {
-                    return None;
-                }
-            }
-        }
-    }
-    None
-}
-
-/// How many bytes of the piece the writer took, at least one, once they are flushed; `None` where it failed.
-fn taken<W: Write>(writer: &mut W, piece: &[u8]) -> Option<usize>
-    requires { 0 < length piece.now }
-    ensures { IfSome result (λ n. (0 < n) × (n ≤ length piece.now)) }
-{
-    for _ in 0..u64::MAX {
-        match writer.write(piece) {
-            Ok(0) => return None,
-            Ok(n) => {
-                writer.flush().ok()?;
-                return Some(n);
-            }
-            Err(e) => {
-                if !is_interrupted(&e) {
-                    return None;
-                }
-            }
-        }
-    }
-    None
 }
