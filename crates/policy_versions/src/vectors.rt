@@ -35,7 +35,10 @@ impl VectorRows {
     pub fn cell(&self, version: u8, s: Kind, t: Kind, class: Class) -> Vector
         ensures { result ≡ vector_at self.now version s t class }
     {
-        Vector::of(self.table.cell(version, s, t, class))
+        match self.table.row(version, s, class) {
+            None => Vector::of(0),
+            Some(row) => Vector::of(row.cells[usize::from(t.place())]),
+        }
     }
 
     /// The vectors of a class that a source has in a version, by the places of the targets: `None` only for a version that is
