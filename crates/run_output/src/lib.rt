@@ -6,7 +6,6 @@ mod auditing;
 mod gathering;
 mod setting;
 mod stop;
-mod writing;
 
 pub use auditing::write_audit;
 pub use gathering::{put_gathered, put_now};

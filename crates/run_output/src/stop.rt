@@ -6,8 +6,7 @@ ghost use Rattle.run_output.specs.Writing.{AddsFront, OffersWhole};
 ghost use Rattle.run_output.specs.declared.stop.RunStop.{RunStop};
 ghost use Rattle.run_output.specs.declared.stop.RunStop.TheVariants as run_stop;
 
-use crate::writing::{WriteFault, write_line};
-use flask_io::Sink;
+use flask_io::{Put, Sink};
 use flask_sid::{Memory, Text};
 
 /// Why a run stopped before its text was written.
@@ -26,7 +25,7 @@ impl From<Memory> for RunStop {
     }
 }
 
-/// Writes a line that was put together.
+/// Writes a line that was put together: offers it whole, and then the rest where the sink took a part.
 #[inline(always)]
 pub fn put_line<K: Sink>(sink: &mut K, out: &Text) -> Result<(), RunStop>
     ensures ok { OnOk result (Adds (K.written sink.old) (K.written sink.new) out.now) }
@@ -35,8 +34,15 @@ pub fn put_line<K: Sink>(sink: &mut K, out: &Text) -> Result<(), RunStop>
     ensures why { IfErr result (λ stop. stop ≡ RunStop.WriteFault) }
     ensures cause { HasCause (K.faults sink.old) (K.faults sink.new) (result ≡ Err RunStop.WriteFault) }
 {
-    match write_line(sink, out.as_bytes()) {
-        Ok(()) => Ok(()),
-        Err(WriteFault) => Err(RunStop::WriteFault),
+    let mut rest = out.as_bytes();
+    'offers: while !rest.is_empty() {
+        match sink.write(rest) {
+            Put::Failed => return Err(RunStop::WriteFault),
+            Put::Took(n) => {
+                let (_taken, left) = rest.split_at(n);
+                rest = left;
+            }
+        }
     }
+    Ok(())
 }

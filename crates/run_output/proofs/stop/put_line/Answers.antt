@@ -1,7 +1,7 @@
 use Rattle.std.proofs.Common.{length, ap, arith}
 use Rattle.std.proofs.lemmas.List.{length-append}
 use Rattle.run_output.proofs.WritingLemmas.{offered_more, whole_of_first, whole_at_end, offered_first, still_under_way}
-use Rattle.run_output.proofs.writing.write_line.Goals as goal
+use Rattle.run_output.proofs.stop.put_line.Goals as goal
 
 pub returns-in-Failed-clause-whole : goal.returns-in-Failed-clause-whole
 returns-in-Failed-clause-whole g c =
