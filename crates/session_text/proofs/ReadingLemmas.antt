@@ -13,7 +13,7 @@ use Rattle.session_text.specs.declared.session.SessionParts.{SessionParts}
 use Rattle.session_text.specs.Progress.{SetupReading}
 use Rattle.session_text.specs.Readers as reader
 use Rattle.session_text.specs.Grammar.{Setup, run_line_read}
-use Rattle.session_text.specs.Reading.{is_session_line, session_line_read, numbered_line_read, setup_line_read, run_on, setup_read, is_run, Leads, setup_form_read, read_line, read_lines, read_end}
+use Rattle.session_text.specs.Reading.{is_session_line, session_line_read, numbered_line_read, setup_line_read, run_on, setup_read, is_run, Leads, setup_form_read, read_line, read_lines, read_end, in_setup, IsBegun, IsReadTo}
 use Rattle.session_text.specs.Readers.{SessionReader}
 
 -- what the reader makes of the lines that are left, below one line more
@@ -47,14 +47,20 @@ policy_fails policy line text_fault.Memory other said = tt
 policy_fails policy line (text_fault.Text n kind) other said = rw (other, said) refl
 
 -- the session line
-pub session_begins : (policy : Reading) (begun : SetupReading) (line : List ℕ) (lines : List (List ℕ)) → is_session_line line ≡ true → session_line_read policy line ≡ Ok begun → read_lines (reader.Policy policy) (line ∷ lines) ≡ read_lines (reader.Setup begun) lines
-unfolding read_lines read_line
-session_begins policy begun line lines is said = rw (is, said) refl
+session_begins : (policy : Reading) (begun : SetupReading) (line : List ℕ) → is_session_line line ≡ true → session_line_read policy line ≡ Ok begun → read_line (reader.Policy policy) line ≡ Ok (reader.Setup begun)
+unfolding read_line
+session_begins policy begun line is said = rw (is, said) refl
 
-pub session_fails : (policy : Reading) (line : List ℕ) (lines : List (List ℕ)) (fault : TextFault) → is_session_line line ≡ true → FailsText fault (session_line_read policy line) → FailsText fault (read_lines (reader.Policy policy) (line ∷ lines))
-unfolding read_lines read_line
-session_fails policy line lines text_fault.Memory is said = tt
-session_fails policy line lines (text_fault.Text n kind) is said = rw (is, said) refl
+session_fails : (policy : Reading) (line : List ℕ) (fault : TextFault) → is_session_line line ≡ true → FailsText fault (session_line_read policy line) → FailsText fault (read_line (reader.Policy policy) line)
+unfolding read_line
+session_fails policy line text_fault.Memory is said = tt
+session_fails policy line (text_fault.Text n kind) is said = rw (is, said) refl
+
+pub session_read : (policy : Reading) (rest below : List (List ℕ)) (line : List ℕ) (answer : Result (ℕ × Setup) TextFault) (total : Result SessionParts LineFault) → read_lines (reader.Policy policy) rest ≡ total → rest ≡ line ∷ below
+    → is_session_line line ≡ true → IsBegun answer (session_line_read policy line) → IsReadTo in_setup answer below total
+session_read policy rest below line (Ok begun) total so_far lines is said =
+    below_line (reader.Policy policy) (in_setup begun.0 begun.1) rest below line total so_far lines (session_begins policy (record { number = begun.0; above = begun.1 }) line is said)
+session_read policy rest below line (Err fault) total so_far lines is said = fails_at (reader.Policy policy) rest below line fault total so_far lines (session_fails policy line fault is said)
 
 -- a session line
 pub setup_line : (n : ℕ) (setup : Setup) (line : List ℕ) (next : SessionReader) → numbered_line_read n line setup ≡ Ok next → read_line (reader.Setup (record { number = n; above = setup })) line ≡ Ok next

@@ -116,10 +116,23 @@ read_end (reader.Policy reading) = Err (record { line = reading.number; kind = E
 read_end (reader.Setup reading) = Err (record { line = reading.number; kind = Ended })
 read_end (reader.Run reading) = Ok reading.above
 
+-- the reader of session lines, and that of the lines that run, of which line n is the next
+abbrev pub in_setup : ℕ → Setup → SessionReader
+in_setup n setup = reader.Setup (record { number = n; above = setup })
+
+abbrev pub in_run : ℕ → Setup → SessionReader
+in_run n setup = reader.Run (record { number = n; above = setup.session })
+
 -- what a reader makes of the lines that are left
 unfoldable pub read_lines : SessionReader → List (List ℕ) → Result SessionParts LineFault
 read_lines state [] = read_end state
 read_lines state (line ∷ lines) = read_line state line >>= λ next. read_lines next lines
+
+-- lines were read down to a reader's first, and so what it makes of those that are left is what was to be made of them all;
+-- or the answer is the fault of one of them
+abbrev pub IsReadTo : (ℕ → Setup → SessionReader) → Result (ℕ × Setup) TextFault → List (List ℕ) → Result SessionParts LineFault → Type 0
+IsReadTo state (Ok below) left whole = read_lines (state below.0 below.1) left ≡ whole
+IsReadTo state (Err e) left whole = FailsText e whole
 
 -- the session that a text is, or its first faulty line
 unfoldable pub session_of : List ℕ → Result SessionParts LineFault

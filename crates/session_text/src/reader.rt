@@ -1,9 +1,9 @@
 //! Reading a session text to its end: its policy, its session lines, and the lines that run.
 
-ghost use Rattle.std.specs.Prelude.{◌≡◌, ◌∷◌, ◌≤◌, true, false, IsTrue, IfOk, OnOk};
+ghost use Rattle.std.specs.Prelude.{◌≡◌, ◌≤◌, false, IsTrue, IfOk, OnOk};
 ghost use Rattle.text_lines.specs.Refusals.{GivesText};
 ghost use Rattle.text_lines.specs.declared.fault.TextFault.TheVariants as text_fault;
-ghost use Rattle.policy_text.specs.Reading.{IsRefusedAt};
+ghost use Rattle.policy_text.specs.Reading.{IsRefusedAt, begun as policy_begun};
 ghost use Rattle.session_forms.specs.ArgumentForms.{IsSetupForm};
 ghost use Rattle.session_text.specs.Grammar;
 ghost use Rattle.session_text.specs.Progress.{AreAbove, Becomes};
@@ -21,14 +21,26 @@ use std::alloc::Global;
 use text_lines::{FaultKind, Line, Lines, Refusal, TextFault, Words, line_words};
 
 /// Reads a session text. Ok exactly where it is one, and else its first faulty line and what is wrong with it.
+#[tactic(auto, unfolding(crate::specs::Reading::session_of))]
 pub fn read(alloc: Global, bytes: &[u8]) -> Result<Session, TextFault>
     ensures { GivesText result (Reading.session_of bytes.now) }
 {
-    let mut policy = PolicyReader::new();
     let mut lines = Lines::of(bytes);
+    let (first, begun) = read_policy(alloc, &mut lines)?;
+    let (number, setup) = read_setup(alloc, first, begun, &mut lines)?;
+    read_run(alloc, number, setup, lines)
+}
+
+/// Reads the lines of the policy and the session line, above which it ends. Answers the number of the next line and what is
+/// above it.
+fn read_policy<'a>(alloc: Global, lines: &mut Lines<'a>) -> Result<(u32, Setup<'a>), TextFault>
+    ensures said { Reading.IsReadTo Reading.in_setup result lines.new (Reading.read_lines (part.Policy policy_begun) lines.old) }
+    ensures counted { IfOk result (λ begun. begun.0 ≤ 100001) }
+{
+    let mut policy = PolicyReader::new();
     'lines: while let Some(line) = lines.next() {
         if is_session_line(&line) {
-            return read_session(alloc, policy, &line, lines);
+            return session_line_read(alloc, policy, &line);
         }
         match policy.read_line(alloc, &line) {
             Ok(()) => {}
@@ -36,22 +48,6 @@ pub fn read(alloc: Global, bytes: &[u8]) -> Result<Session, TextFault>
         }
     }
     Err(fault_at(policy.number(), FaultKind::Ended))
-}
-
-/// Reads on from the session line, above which the policy ends.
-fn read_session<'a>(
-    alloc: Global,
-    policy: PolicyReader<'a>,
-    line: &Line<'a>,
-    lines: Lines<'a>,
-) -> Result<Session, TextFault>
-    requires { Reading.is_session_line line.now ≡ true }
-    ensures { GivesText result (Reading.read_lines (part.Policy policy.entry) (line.now ∷ lines.entry)) }
-{
-    match session_line_read(alloc, policy, line) {
-        Ok((number, setup)) => read_setup(alloc, number, setup, lines),
-        Err(fault) => Err(fault),
-    }
 }
 
 /// The session line, and the number of the next one.
@@ -79,22 +75,22 @@ fn session_line_read<'a>(
     Ok((number + 1, Setup::begun(alloc, policy, contexts)))
 }
 
-/// Reads on from session line `first`.
+/// Reads the session lines from line `first` down to `run`. Answers as `read_policy`.
 fn read_setup<'a>(
     alloc: Global,
     first: u32,
     begun: Setup<'a>,
-    below: Lines<'a>,
-) -> Result<Session, TextFault>
+    lines: &mut Lines<'a>,
+) -> Result<(u32, Setup<'a>), TextFault>
     requires { first ≤ 100001 }
-    ensures { GivesText result (Reading.read_lines (part.Setup (record { number = first; above = begun.entry })) below.entry) }
+    ensures said { Reading.IsReadTo Reading.in_run result lines.new (Reading.read_lines (Reading.in_setup first begun.entry) lines.old) }
+    ensures counted { IfOk result (λ ended. ended.0 ≤ 100001) }
 {
     let mut number = first;
     let mut setup = begun;
-    let mut lines = below;
     'lines: while let Some(line) = lines.next() {
         match numbered_line_read(alloc, number, &line, &mut setup) {
-            Ok(true) => return read_run(alloc, number + 1, setup, lines),
+            Ok(true) => return Ok((number + 1, setup)),
             Ok(false) => number += 1,
             Err(refusal) => return Err(refused_at(number, refusal)),
         }
@@ -102,7 +98,7 @@ fn read_setup<'a>(
     Err(fault_at(number, FaultKind::Ended))
 }
 
-/// Reads on from line `first`, the first that runs.
+/// Reads the lines that run, from line `first` to the end of the text.
 fn read_run<'a>(
     alloc: Global,
     first: u32,
@@ -110,7 +106,7 @@ fn read_run<'a>(
     below: Lines<'a>,
 ) -> Result<Session, TextFault>
     requires { first ≤ 100001 }
-    ensures { GivesText result (Reading.read_lines (part.Run (record { number = first; above = setup.entry.session })) below.entry) }
+    ensures { GivesText result (Reading.read_lines (Reading.in_run first setup.entry) below.entry) }
 {
     let mut number = first;
     let mut running = match Running::begun(alloc, setup) {

@@ -15,16 +15,16 @@ lines-preserved c =
       counted = omega (arith, counted);
     }
 
-pub returns-in-Ok-true : goal.returns-in-Ok-true
-returns-in-Ok-true c =
+pub returns-in-Ok-true-clause-said : goal.returns-in-Ok-true-clause-said
+returns-in-Ok-true-clause-said c =
     let said = rw c.in-Ok-true.field-0-test at c.in-Ok-true.ensures.said in
-    rw (← below_line _ _ _ _ _ _ c.lines.invariant.so_far c.in-Some.ensures (setup_line c.lines.number c.lines.setup _ _ said)) c.read_run.ensures
+    below_line _ _ _ _ _ _ c.lines.invariant.so_far c.in-Some.ensures (setup_line c.lines.number c.lines.setup _ _ said)
 
-pub returns-in-Err : goal.returns-in-Err
-returns-in-Err c =
+pub returns-in-Err-clause-said : goal.returns-in-Err-clause-said
+returns-in-Err-clause-said c =
     fails_at _ _ _ _ c.refused_at.result _ c.lines.invariant.so_far c.in-Some.ensures
     (setup_refused c.lines.number c.lines.setup _ c.in-Err.refusal c.refused_at.result c.in-Err.ensures.said c.refused_at.ensures)
 
-pub returns : goal.returns
+pub returns-clause-said : goal.returns-clause-said
 unfolding read_end
-returns c = rw (c.fault_at.ensures, at_end _ _ _ c.lines.invariant.so_far c.in_default.ensures.0) refl
+returns-clause-said c = rw (c.fault_at.ensures, at_end _ _ _ c.lines.invariant.so_far c.in_default.ensures.0) refl
