@@ -1,8 +1,10 @@
-"""Compiling a policy with `neverallow` lines, beside `secilc` and `checkpolicy`, where the machine has them.
+"""Compiling a policy with `neverallow` lines, beside `secilc` and `checkpolicy`, and single decisions beside libsepol, where the machine has them.
 
 The policy has 128 types, 1,024 lines that allow reading and 1,024 `neverallow` lines that forbid writing, and is written in the language of each program.
 `flaskd serial` reads and compiles it below a session of no lines; the others write the binary policy to a file. A figure is processor time of a whole
 command. The programs do not do the same: the others write a policy for a kernel, which has more in it, and `flaskd` makes rows for all pairs of types.
+A decision is a vector for drawn pairs of types of the same policy: a look-up by the program of `bench/run rows`, where that is built, and
+`sepol_compute_av`, which walks the attributes of both types, as a kernel does where its cache has no entry. Nothing is installed: what is not there is left out.
 """
 
 import os
@@ -17,6 +19,7 @@ import timing
 
 RUNS = 11
 CRATES = ""
+KEYS = 65_536
 SESSION = "session\nclient alice u:r:k0\nrun\n"
 MLS_FREE = """(handleunknown allow)
 (mls false)
@@ -89,6 +92,25 @@ def took(words, path):
     return (usage.ru_utime + usage.ru_stime) * 1e9
 
 
+def decisions(place, asked):
+    """Single decisions, where libsepol can be linked, `secilc` has written its policy, and the program of look-ups is built."""
+    timing.head("a vector by drawn pairs of 128 types", "proved, best / median, ns", "the peer", "ratio of medians")
+    look, decision = timing.OUT / "rows_bench", place / "decision"
+    compiler = shutil.which("gcc") or shutil.which("cc")
+    source = pathlib.Path(__file__).parent / "decision.c"
+    made = compiler and subprocess.run([compiler, "-O2", "-o", decision, source, "-l:libsepol.a"], stderr=subprocess.DEVNULL).returncode == 0
+    for there, what in ((look.is_file(), "bench/out/rows_bench"), (made, "libsepol to link with"), ((place / "binary").is_file(), "policy of secilc")):
+        if not there:
+            print(f"bench: there is no {what} on this machine", file=sys.stderr)
+            return
+    text, figures = (place / "own").read_text(), ([], [])
+    for _ in range(asked.runs):
+        for found, words, rounds, given in ((figures[0], [look, "look", "100"], 100, text), (figures[1], [decision, place / "binary", "1"], 1, None)):
+            told = subprocess.run([str(word) for word in words], input=given, capture_output=True, text=True, check=True)
+            found.append(int(told.stdout.split()[0]) / rounds / KEYS)
+    timing.row("beside `sepol_compute_av`", timing.shown(figures[0], digits=1), timing.shown(figures[1], digits=1), timing.ratio(*figures))
+
+
 def measure(programs, asked):
     flaskd = asked.program.resolve()
     timing.head("a policy of 1,024 `allow` and 1,024 `neverallow` lines, compiled", "proved, best / median, ms", "the peer", "ratio of medians")
@@ -100,7 +122,7 @@ def measure(programs, asked):
         conf.write_text(policy_text(*lines))
         peers = {
             "secilc": (["secilc", "-o", place / "binary", "-f", place / "contexts", cil], cil),
-            "checkpolicy": (["checkpolicy", "-o", place / "binary", conf], conf),
+            "checkpolicy": (["checkpolicy", "-o", place / "another", conf], conf),
         }
         for name, (words, path) in peers.items():
             if shutil.which(name) is None:
@@ -109,3 +131,4 @@ def measure(programs, asked):
             figures = [(took([flaskd, "serial"], own), took(words, path)) for _ in range(asked.runs)]
             proved, peer = [one[0] for one in figures], [one[1] for one in figures]
             timing.row(f"beside `{name}`", timing.shown(proved, 1_000_000, 2), timing.shown(peer, 1_000_000, 2), timing.ratio(proved, peer))
+        decisions(place, asked)

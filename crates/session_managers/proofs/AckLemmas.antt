@@ -1,5 +1,5 @@
 -- What the question whether the managers acknowledge does to a session.
-use Rattle.std.proofs.Common.{◌≡◌, ℕ, Bool, true, false, not, List, [], ◌∷◌, length, Some, refl, sym, ap, ◌∙◌, arith}
+use Rattle.std.proofs.Common.{◌≡◌, ℕ, Bool, true, false, not, List, [], ◌∷◌, ◌++◌, length, Some, refl, sym, ap, ◌∙◌, append-nil, arith}
 use Rattle.std.specs.Prelude.{◌&&◌, slice_get, nat_lt, ◌||◌, if◌then◌else◌}
 use Rattle.std.specs.List.{list_all}
 use Rattle.access_vectors.specs.Decisions.{Decisions}
@@ -11,6 +11,7 @@ use Rattle.manager_history.specs.Kept.{ack_answer, is_done}
 use Rattle.manager_history.specs.declared.answers.Ack.{Ack}
 use Rattle.manager_history.specs.declared.answers.Ack.TheVariants as acks
 use Rattle.managed.specs.Posts.{Post, stale_on, settled_if}
+use Rattle.managed.specs.Seen.{acknowledging}
 use Rattle.security_server.specs.Numbering.{is_in}
 use Rattle.change_protocol.specs.Changes as changes
 use Rattle.change_protocol.specs.Changes.{Led, IsLed, IsPlaced, AreAll, IsAskedUnless, HasAskedAll, phase_after, phase_at, is_kept}
@@ -29,10 +30,12 @@ use Rattle.port_calls.specs.States.{PortState}
 use Rattle.port_store.specs.Stores as port_store
 use Rattle.session_managers.specs.declared.one_manager.OneManager.{OneManager}
 use Rattle.session_managers.specs.SessionStates.{SessionState, pending_at, waits_on, ack_on, said_of, all_saying, standing_by, is_complete, counted_change, state_settled, file_ack, process_ack, port_ack}
+use Rattle.session_managers.specs.SessionViews.{Events, events_acknowledged}
 use Rattle.session_managers.specs.One.{Files, Processes, Ports, IsSame, phase, place_of, decider_of, seen, file_opening, process_opening, port_opening}
 use Rattle.session_managers.specs.Standings.{IsSession, is_whole, session_state_of}
 use Rattle.session_managers.proofs.AdminLemmas.{acknowledged_post, acknowledged_answer, phase_as}
 use Rattle.session_managers.proofs.NoticeLemmas.{seen_phase, number_at, reached_all, all_settled}
+use Rattle.session_managers.proofs.EventLemmas.{history, events_of, events_are, unasked, asked as asked_one}
 use Rattle.session_managers.proofs.ThreeLemmas.{AreFiles, AreProcesses, ArePorts, Three, state_is}
 
 -- while a change is pending a manager that is asked does not say that nothing is
@@ -77,16 +80,18 @@ module _ {D : Type 0} (decides : D → Decisions) (forced : Bool) where
       → (seen decides was).manager ≡ place → post.phase ≡ (if is_in receipts place then Settled number new else Pending number old new)
       → IsAskedUnless (seen decides) forced (is_in receipts place) was now said
       → (place_of now ≡ Files (settled_if post (is_done (ack_files decider post place)))) × (said ≡ said_of (ack_files decider post place)) × (decider_of now ≡ decider)
+      × (history decides now ≡ history decides was ++ acknowledging forced post.phase (is_done (ack_files decider post place)))
   asked_files was now post decider receipts place number old new said are at numbered stands asked =
       let by = ap decider_of (sym are.was_is) ∙ at in
       let got = from (is_in receipts place) stands asked in
-      (got.0, got.1, rw are.now_is (are.same.decider ∙ by))
+      (got.0, got.1, rw are.now_is (are.same.decider ∙ by), got.2)
     where
       from : (b : Bool) → post.phase ≡ (if b then Settled number new else Pending number old new) → IsAskedUnless (seen decides) forced b was now said
           → (place_of now ≡ Files (settled_if post (is_done (ack_files decider post place)))) × (said ≡ said_of (ack_files decider post place))
+          × (history decides now ≡ history decides was ++ acknowledging forced post.phase (is_done (ack_files decider post place)))
       from true stands asked =
           let idle : ack_files decider post place ≡ acks.Idle = rw stands refl in
-          (rw (idle, asked.0, are.was_is, ← are.post_is) refl, asked.1 ∙ sym (ap said_of idle))
+          (rw (idle, asked.0, are.was_is, ← are.post_is) refl, asked.1 ∙ sym (ap said_of idle), unasked decides was now forced post.phase _ asked.0 idle)
       from false stands asked =
           let by = ap decider_of (sym are.was_is) ∙ at in
           let here = rw (are.was_is, are.now_is) at asked.acknowledged in
@@ -97,6 +102,7 @@ module _ {D : Type 0} (decides : D → Decisions) (forced : Bool) where
           rw (are.now_is, ← are.post_is) (ap Files (acknowledged_post decides class.File file.pair_of file_opening file_store.state_of file_store.follows are.old are.new are.same forced asked.ack here)) in (
             stood ∙ ap (λ a. Files (settled_if post (is_done a))) ack_is,
             asked.said_is ∙ ap changes.said_of ack_is ∙ said_at post.phase place (waits_on forced post) _ (ap is_pending stands),
+            asked_one decides was now forced post.phase _ said asked ack_is (rw (are.was_is, ← are.post_is) refl),
           )
 
   -- the manager of processes
@@ -107,16 +113,18 @@ module _ {D : Type 0} (decides : D → Decisions) (forced : Bool) where
       → (seen decides was).manager ≡ place → post.phase ≡ (if is_in receipts place then Settled number new else Pending number old new)
       → IsAskedUnless (seen decides) forced (is_in receipts place) was now said
       → (place_of now ≡ Processes (settled_if post (is_done (ack_processes decider post place)))) × (said ≡ said_of (ack_processes decider post place)) × (decider_of now ≡ decider)
+      × (history decides now ≡ history decides was ++ acknowledging forced post.phase (is_done (ack_processes decider post place)))
   asked_processes was now post decider receipts place number old new said are at numbered stands asked =
       let by = ap decider_of (sym are.was_is) ∙ at in
       let got = from (is_in receipts place) stands asked in
-      (got.0, got.1, rw are.now_is (are.same.decider ∙ by))
+      (got.0, got.1, rw are.now_is (are.same.decider ∙ by), got.2)
     where
       from : (b : Bool) → post.phase ≡ (if b then Settled number new else Pending number old new) → IsAskedUnless (seen decides) forced b was now said
           → (place_of now ≡ Processes (settled_if post (is_done (ack_processes decider post place)))) × (said ≡ said_of (ack_processes decider post place))
+          × (history decides now ≡ history decides was ++ acknowledging forced post.phase (is_done (ack_processes decider post place)))
       from true stands asked =
           let idle : ack_processes decider post place ≡ acks.Idle = rw stands refl in
-          (rw (idle, asked.0, are.was_is, ← are.post_is) refl, asked.1 ∙ sym (ap said_of idle))
+          (rw (idle, asked.0, are.was_is, ← are.post_is) refl, asked.1 ∙ sym (ap said_of idle), unasked decides was now forced post.phase _ asked.0 idle)
       from false stands asked =
           let by = ap decider_of (sym are.was_is) ∙ at in
           let here = rw (are.was_is, are.now_is) at asked.acknowledged in
@@ -127,6 +135,7 @@ module _ {D : Type 0} (decides : D → Decisions) (forced : Bool) where
           rw (are.now_is, ← are.post_is) (ap Processes (acknowledged_post decides class.Process process.pair_of process_opening process_store.state_of process_store.follows are.old are.new are.same forced asked.ack here)) in (
             stood ∙ ap (λ a. Processes (settled_if post (is_done a))) ack_is,
             asked.said_is ∙ ap changes.said_of ack_is ∙ said_at post.phase place (waits_on forced post) _ (ap is_pending stands),
+            asked_one decides was now forced post.phase _ said asked ack_is (rw (are.was_is, ← are.post_is) refl),
           )
 
   -- the manager of ports
@@ -137,16 +146,18 @@ module _ {D : Type 0} (decides : D → Decisions) (forced : Bool) where
       → (seen decides was).manager ≡ place → post.phase ≡ (if is_in receipts place then Settled number new else Pending number old new)
       → IsAskedUnless (seen decides) forced (is_in receipts place) was now said
       → (place_of now ≡ Ports (settled_if post (is_done (ack_ports decider post place)))) × (said ≡ said_of (ack_ports decider post place)) × (decider_of now ≡ decider)
+      × (history decides now ≡ history decides was ++ acknowledging forced post.phase (is_done (ack_ports decider post place)))
   asked_ports was now post decider receipts place number old new said are at numbered stands asked =
       let by = ap decider_of (sym are.was_is) ∙ at in
       let got = from (is_in receipts place) stands asked in
-      (got.0, got.1, rw are.now_is (are.same.decider ∙ by))
+      (got.0, got.1, rw are.now_is (are.same.decider ∙ by), got.2)
     where
       from : (b : Bool) → post.phase ≡ (if b then Settled number new else Pending number old new) → IsAskedUnless (seen decides) forced b was now said
           → (place_of now ≡ Ports (settled_if post (is_done (ack_ports decider post place)))) × (said ≡ said_of (ack_ports decider post place))
+          × (history decides now ≡ history decides was ++ acknowledging forced post.phase (is_done (ack_ports decider post place)))
       from true stands asked =
           let idle : ack_ports decider post place ≡ acks.Idle = rw stands refl in
-          (rw (idle, asked.0, are.was_is, ← are.post_is) refl, asked.1 ∙ sym (ap said_of idle))
+          (rw (idle, asked.0, are.was_is, ← are.post_is) refl, asked.1 ∙ sym (ap said_of idle), unasked decides was now forced post.phase _ asked.0 idle)
       from false stands asked =
           let by = ap decider_of (sym are.was_is) ∙ at in
           let here = rw (are.was_is, are.now_is) at asked.acknowledged in
@@ -157,6 +168,7 @@ module _ {D : Type 0} (decides : D → Decisions) (forced : Bool) where
           rw (are.now_is, ← are.post_is) (ap Ports (acknowledged_post decides class.Port port.pair_of port_opening port_store.state_of port_store.follows are.old are.new are.same forced asked.ack here)) in (
             stood ∙ ap (λ a. Ports (settled_if post (is_done a))) ack_is,
             asked.said_is ∙ ap changes.said_of ack_is ∙ said_at post.phase place (waits_on forced post) _ (ap is_pending stands),
+            asked_one decides was now forced post.phase _ said asked ack_is (rw (are.was_is, ← are.post_is) refl),
           )
 
   -- the list of what they say has one for each
@@ -183,6 +195,7 @@ module _ {D : Type 0} (decides : D → Decisions) (forced : Bool) where
     pub all_is : all ≡ standing_by forced (decides led.server.decider) (session_state_of led.managers calls denied changes)
     pub said_is : said ≡ all_saying forced (decides led.server.decider) (session_state_of led.managers calls denied changes)
     pub state : session_state_of after.managers calls denied (counted_change (is_complete all) changes) ≡ state_settled forced (decides led.server.decider) (session_state_of led.managers calls denied changes)
+    pub events : events_of decides after.managers ≡ events_acknowledged forced (decides led.server.decider) (session_state_of led.managers calls denied changes) (events_of decides led.managers)
     pub whole : is_whole after ≡ true
 
   -- by where it stood: a triple of posts
@@ -242,6 +255,8 @@ module _ {D : Type 0} (decides : D → Decisions) (forced : Bool) where
         all_is = all_here ∙ sym (ap (standing_by forced d) before);
         said_is = said_here ∙ sym (ap (all_saying forced d) before);
         state = state_is after session calls denied (counted_change (is_complete all) changes) ∙ rw all_here (sym (ap (state_settled forced d) before));
+        events = events_are decides after.managers t.file t.process t.port t.are ∙ rw (f.3, p.3, q.3)
+            (sym (ap (λ events. events_acknowledged forced d state events) (events_are decides led.managers s.file s.process s.port s.managers_are)) ∙ sym (ap (λ state. events_acknowledged forced d state (events_of decides led.managers)) before));
         whole = rw (told.reached, reached) (either (is_pending after.server.phase));
       }
     where
@@ -263,6 +278,9 @@ module _ {D : Type 0} (decides : D → Decisions) (forced : Bool) where
       either true = refl
       either false = refl
 
+  none_added : (events : Events) → record { files = events.files ++ []; processes = events.processes ++ []; ports = events.ports ++ [] } ≡ events
+  none_added events = rw (append-nil events.files, append-nil events.processes, append-nil events.ports) refl
+
   -- where nothing is pending all is as it was
   idle_session : (led after : Led D (OneManager D)) (s : IsSession led) (said : List Said) (all : AckAll) (calls denied changes number version : ℕ) → led.server.phase ≡ Settled number version
       → IsAskedOf led after said all → IsAckedSession led after said all calls denied changes
@@ -278,6 +296,8 @@ module _ {D : Type 0} (decides : D → Decisions) (forced : Bool) where
         all_is = answer ∙ sym (ap (standing_by forced d) before ∙ rw (settled.0, settled.1, settled.2) refl);
         said_is = told.idle_said (ap is_pending at) ∙ sym (ap (all_saying forced d) before ∙ rw (settled.0, settled.1, settled.2) refl);
         state = rw (same, answer) (before ∙ sym (ap (state_settled forced d) before ∙ rw (settled.0, settled.1, settled.2) refl));
+        events = rw same (sym (ap (λ state. events_acknowledged forced d state (events_of decides led.managers)) before ∙ rw (settled.0, settled.1, settled.2)
+            (none_added (events_of decides led.managers))));
         whole = rw (same, at) refl;
       }
 

@@ -2,6 +2,7 @@ pub mod OneLemmas
 pub mod SessionLemmas
 pub mod AdminLemmas
 pub mod ThreeLemmas
+pub mod EventLemmas
 pub mod UpdateLemmas
 pub mod NoticeLemmas
 pub mod AckLemmas

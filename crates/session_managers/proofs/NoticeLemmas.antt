@@ -11,6 +11,7 @@ use Rattle.access_vectors.specs.declared.class.Class.TheVariants as class
 use Rattle.access_vectors.specs.declared.phase.Phase.{Phase}
 use Rattle.access_vectors.specs.declared.phase.Phase.TheVariants.{Settled, Pending}
 use Rattle.managed.specs.Posts.{Post}
+use Rattle.managed.specs.declared.managed.Event.TheVariants.{Notice}
 use Rattle.security_server.specs.Numbering.{ServerView, is_in}
 use Rattle.change_protocol.specs.Changes.{Led, IsLed, IsPlaced, AreBoth, IsNotifiedAt, notify_all_fault, notify_all_answer, ending, for_all, goes_on, phase_at, started, number_after, first_on}
 use Rattle.change_protocol.specs.declared.answers.NotifyAllFault.{NotifyAllFault}
@@ -27,10 +28,11 @@ use Rattle.port_store.specs.Stores as port_store
 use Rattle.session_managers.specs.declared.one_manager.OneManager.{OneManager}
 use Rattle.session_managers.specs.declared.one_manager.OneManager.TheVariants.{File, Process, Port}
 use Rattle.session_managers.specs.SessionStates.{pending_at, refusal_of, state_notified, with_posts}
-use Rattle.session_managers.specs.SessionViews.{IsSaid, IsStateUnlessMemory, IsWholeUnlessMemory, notified_if}
+use Rattle.session_managers.specs.SessionViews.{IsSaid, IsStateUnlessMemory, IsWholeUnlessMemory, notified_if, reached_by, events_noticed}
 use Rattle.session_managers.specs.One.{Files, Processes, Ports, phase, place_of, decider_of, seen, file_opening, process_opening, port_opening}
 use Rattle.session_managers.specs.Standings.{IsSession, is_whole, session_state_of}
 use Rattle.session_managers.proofs.AdminLemmas.{notified_post, refused_post}
+use Rattle.session_managers.proofs.EventLemmas.{events_of, events_are, noticed}
 use Rattle.session_managers.proofs.ThreeLemmas.{AreFiles, AreProcesses, ArePorts, Three, state_is}
 
 -- a place is before, at or behind a bound
@@ -144,6 +146,8 @@ module _ {D : Type 0} (decides : D → Decisions) where
     pub told : IsSaid said (refusal_of (decides led.server.decider) (session_state_of led.managers calls denied changes) version) (number_of (session_state_of led.managers calls denied changes).files.phase + 1)
     pub state : IsStateUnlessMemory said (session_state_of after.managers calls denied changes) (session_state_of led.managers calls denied changes) version
         (state_notified (session_state_of led.managers calls denied changes) version (refusal_of (decides led.server.decider) (session_state_of led.managers calls denied changes) version))
+    pub events : events_of decides after.managers
+        ≡ events_noticed (events_of decides led.managers) (reached_by said) (Notice (number_of (session_state_of led.managers calls denied changes).files.phase + 1) version)
     pub whole : IsWholeUnlessMemory said (is_whole after)
 
   -- what the coordinator tells of a round of notices
@@ -160,7 +164,7 @@ module _ {D : Type 0} (decides : D → Decisions) where
       → after ≡ led → is_whole led ≡ true → said ≡ Err (for_all fault) → refusal_of (decides led.server.decider) (session_state_of led.managers calls denied changes) version ≡ Some fault
       → IsNotifiedSession led after said version calls denied changes
   refused_session led after s said version calls denied changes fault told same whole said_is refusal =
-      rw (same, said_is) (record { session = s; told = rw refusal (at fault told); state = rw refusal (stays fault told); whole = all fault })
+      rw (same, said_is) (record { session = s; told = rw refusal (at fault told); state = rw refusal (stays fault told); events = none fault; whole = all fault })
     where
       at : (fault : NotifyFault) → (fault ≡ refusing.Memory → ⊥) → IsSaid (Err (for_all fault)) (Some fault) (number_of (session_state_of led.managers calls denied changes).files.phase + 1)
       at (refusing.Pending number) told = refl
@@ -174,6 +178,13 @@ module _ {D : Type 0} (decides : D → Decisions) where
       stays refusing.NoVersion told = refl
       stays refusing.Spent told = refl
       stays refusing.Memory told = absurd (told refl)
+
+      none : (fault : NotifyFault) → events_of decides led.managers
+          ≡ events_noticed (events_of decides led.managers) (reached_by (Err (for_all fault))) (Notice (number_of (session_state_of led.managers calls denied changes).files.phase + 1) version)
+      none (refusing.Pending number) = refl
+      none refusing.NoVersion = refl
+      none refusing.Spent = refl
+      none refusing.Memory = refl
 
       all : (fault : NotifyFault) → IsWholeUnlessMemory (Err (for_all fault)) (is_whole led)
       all (refusing.Pending number) = whole
@@ -266,10 +277,16 @@ module _ {D : Type 0} (decides : D → Decisions) where
       let answer : said ≡ ending (number + 1) after.reached 3 = rw (fault, at, three_of led s round.was_led) at round.answer in
       let now = state_is after session calls denied changes in
       let before = state_is led s calls denied changes in
+      let next : number_of (session_state_of led.managers calls denied changes).files.phase + 1 ≡ number + 1 = ap (λ state. number_of state.files.phase + 1) before ∙ ap (λ p. number_of p + 1) settled.0 in
+      let histories : events_of decides after.managers ≡ events_noticed (events_of decides led.managers) after.reached (Notice (number + 1) version) =
+      events_are decides after.managers t.file t.process t.port t.are
+      ∙ rw (noticed decides s.file t.file version (number + 1) after.reached 0 (each 0), noticed decides s.process t.process version (number + 1) after.reached 1 (each 1), noticed decides s.port t.port version (number + 1) after.reached 2 (each 2))
+      (sym (ap (λ events. events_noticed events after.reached (Notice (number + 1) version)) (events_are decides led.managers s.file s.process s.port s.managers_are))) in
       elim (nat_lt after.reached 3) as (λ (b : Bool). nat_lt after.reached 3 ≡ b → said ≡ (if b then Err (faults.Memory after.reached) else Ok (number + 1)) → IsNotifiedSession led after said version calls denied changes) [
         | true ↦ λ few is. record {
           session = session;
           told = rw is (idle, grind (arith, nat_tests));
+          events = rw (is, next) histories;
           whole = rw is tt;
           state = rw is (now ∙ sym (ap (λ state. with_posts state (notified_if (nat_lt 0 after.reached) state.files version) (notified_if (nat_lt 1 after.reached) state.processes version)
               (notified_if (nat_lt 2 after.reached) state.ports version)) before));
@@ -281,7 +298,8 @@ module _ {D : Type 0} (decides : D → Decisions) where
             record {
               session = session;
               whole = rw (is, phase_is, all) refl;
-              told = rw is (idle, sym (ap (λ state. number_of state.files.phase + 1) before ∙ ap (λ p. number_of p + 1) settled.0));
+              told = rw is (idle, sym next);
+              events = rw (is, next) (rw (zero, one, two) at histories);
               state = rw (is, idle) ((rw (zero, one, two) at now) ∙ sym (ap (λ state. state_notified state version None) before));
             }
       ] refl answer

@@ -20,6 +20,7 @@ use Rattle.session_managers.specs.SessionStates.{state_updated, left_on}
 use Rattle.session_managers.specs.One.{Files, Processes, Ports, place_of, decider_of, seen, file_opening, process_opening, port_opening}
 use Rattle.session_managers.specs.Standings.{IsSession, session_state_of}
 use Rattle.session_managers.proofs.AdminLemmas.{updated_post, updated_left}
+use Rattle.session_managers.proofs.EventLemmas.{events_of, events_are, stayed}
 use Rattle.session_managers.proofs.ThreeLemmas.{AreFiles, AreProcesses, ArePorts, Three, state_is}
 
 module _ {D : Type 0} (decides : D → Decisions) where
@@ -90,6 +91,7 @@ module _ {D : Type 0} (decides : D → Decisions) where
     pub ports : session.ports ≡ updated s.ports (stale_ports led.server.decider s.ports) most
     pub left_is : left ≡ length (drop most (stale_files led.server.decider s.files)) ∷ length (drop most (stale_processes led.server.decider s.processes))
         ∷ length (drop most (stale_ports led.server.decider s.ports)) ∷ []
+    pub events : events_of decides after.managers ≡ events_of decides led.managers
 
   pub updated_session : (led after : Led D (OneManager D)) (s : IsSession led) (t : Three led s after.managers) (most : ℕ) (left : List ℕ)
       → ((place : ℕ) → AreAll (λ was now left. IsUpdated most (seen decides was) (seen decides now) left) (slice_get led.managers place) (slice_get after.managers place) (slice_get left place))
@@ -121,6 +123,9 @@ module _ {D : Type 0} (decides : D → Decisions) where
         processes = refl;
         ports = refl;
         left_is = rw (left_is, f.1, p.1, q.1) refl;
+        events = events_are decides after.managers t.file t.process t.port t.are
+            ∙ rw (stayed decides s.file t.file file_told.history, stayed decides s.process t.process process_told.history, stayed decides s.port t.port port_told.history)
+            (sym (events_are decides led.managers s.file s.process s.port s.managers_are));
       }
 
   pub updated_state : (led after : Led D (OneManager D)) (s : IsSession led) (most : ℕ) (left : List ℕ) (calls denied changes : ℕ) → IsUpdatedSession led after s most left

@@ -20,6 +20,8 @@ use Rattle.change_protocol.specs.declared.answers.NotifyAllFault.TheVariants as 
 use Rattle.session_forms.specs.declared.run_forms.Manager.{Manager}
 use Rattle.session_forms.specs.declared.run_forms.Manager.TheVariants as manager
 use Rattle.managed.specs.Posts.{Post, notified}
+use Rattle.managed.specs.Seen.{acknowledging}
+use Rattle.manager_history.specs.Kept.{is_done}
 use Rattle.file_calls.specs.Openings as file_openings
 use Rattle.file_tree.specs.PlainTree.{PlainTree, Item}
 use Rattle.file_tree.specs.contracts.step.Step as step_type
@@ -41,7 +43,7 @@ use Rattle.port_calls.specs.declared.opening.PortOpening.{PortOpening}
 use Rattle.manager_history.specs.declared.answers.Answer.{Answer}
 use Rattle.manager_history.specs.declared.answers.Answer.TheVariants.{Did, Aborted}
 use Rattle.session_managers.specs.One.{Told}
-use Rattle.session_managers.specs.SessionStates.{SessionState, with_posts}
+use Rattle.session_managers.specs.SessionStates.{SessionState, with_posts, file_ack, process_ack, port_ack}
 use Rattle.session_managers.specs.contracts.acting.Reply as reply_type
 use Rattle.session_managers.specs.declared.acting.Reply.{Reply}
 use Rattle.session_managers.specs.declared.opening.Openings.{Openings}
@@ -219,6 +221,33 @@ IsSaid (Err fault) refusal next = option_map for_all refusal ≡ Some fault
 abbrev pub notified_if : {State : Type 0} → Bool → Post State → ℕ → Post State
 notified_if true post version = notified post version
 notified_if false post version = post
+
+-- how many managers, the first ones, have the notice then: all where it was begun, and else those that want of memory left with theirs
+abbrev pub reached_by : Result ℕ NotifyAllFault → ℕ
+reached_by (Ok number) = 3
+reached_by (Err (faults.Memory reached)) = reached
+reached_by (Err fault) = 0
+
+-- a history has a notice besides where its manager was reached
+abbrev pub noticed_if : Bool → List Event → Event → List Event
+noticed_if true history notice = history ++ notice ∷ []
+noticed_if false history notice = history
+
+-- the histories after a notice that reached the first so many managers
+abbrev pub events_noticed : Events → ℕ → Event → Events
+events_noticed events reached notice = record {
+  files = noticed_if (nat_lt 0 reached) events.files notice;
+  processes = noticed_if (nat_lt 1 reached) events.processes notice;
+  ports = noticed_if (nat_lt 2 reached) events.ports notice;
+}
+
+-- the histories after each manager was asked whether it acknowledges, or forced to: those that do have their acknowledgement besides
+abbrev pub events_acknowledged : Bool → Decisions → SessionState → Events → Events
+events_acknowledged forced d state events = record {
+  files = events.files ++ acknowledging forced state.files.phase (is_done (file_ack forced d state));
+  processes = events.processes ++ acknowledging forced state.processes.phase (is_done (process_ack forced d state));
+  ports = events.ports ++ acknowledging forced state.ports.phase (is_done (port_ack forced d state));
+}
 
 -- unless memory was wanting each manager has its notice
 abbrev pub IsWholeUnlessMemory : Result ℕ NotifyAllFault → Bool → Type 0

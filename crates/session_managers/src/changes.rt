@@ -1,8 +1,10 @@
 //! What the administrator does: a change of policy across the managers.
 
-ghost use Rattle.std.specs.Prelude.{◌≡◌, ◌+◌, ◌<◌, ◌^◌, true, IsTrue, IfErr, OnErr, length, drop};
+ghost use Rattle.std.specs.Prelude.{◌≡◌, ◌+◌, ◌<◌, ◌^◌, false, true};
 ghost use Rattle.access_vectors.specs.Phases.{number_of};
+ghost use Rattle.managed.specs.declared.managed.Event.TheVariants.{Notice};
 ghost use Rattle.session_managers.specs.SessionStates;
+ghost use Rattle.session_managers.specs.SessionViews;
 ghost use Rattle.session_managers.specs.SessionViews.{IsStateUnlessMemory, IsSaid, IsSameOpening, IsWholeUnlessMemory};
 
 use crate::managers::SessionManagers;
@@ -27,6 +29,8 @@ impl<'d, D: Decider> SessionManagers<'d, D> {
             IsSaid result refusal (number_of self.old.state.files.phase + 1) }
         ensures state { let refusal = SessionStates.refusal_of (D.decides self.old.decider) self.old.state ver in
             IsStateUnlessMemory result self.new.state self.old.state ver (SessionStates.state_notified self.old.state ver refusal) }
+        ensures events { self.new.events
+            ≡ SessionViews.events_noticed self.old.events (SessionViews.reached_by result) (Notice (number_of self.old.state.files.phase + 1) ver) }
         ensures whole { IsWholeUnlessMemory result self.new.whole }
         ensures opening { IsSameOpening self.old.state self.new.state }
         ensures decider { self.new.decider ≡ self.old.decider }
@@ -38,6 +42,7 @@ impl<'d, D: Decider> SessionManagers<'d, D> {
     pub fn update<R: Wait>(&mut self, rt: &R, k: u32) -> [u64; 3]
         ensures left { result ≡ SessionStates.left_on (D.decides self.old.decider) self.old.state k }
         ensures state { self.new.state ≡ SessionStates.state_updated (D.decides self.old.decider) self.old.state k }
+        ensures events { self.new.events ≡ self.old.events }
         ensures opening { IsSameOpening self.old.state self.new.state }
         ensures decider { self.new.decider ≡ self.old.decider }
         ensures whole { self.new.whole ≡ self.old.whole }
@@ -54,6 +59,7 @@ impl<'d, D: Decider> SessionManagers<'d, D> {
         ensures all { result.all ≡ SessionStates.ack_all_of (D.decides self.old.decider) self.old.state }
         ensures said { result.said ≡ SessionStates.all_said (D.decides self.old.decider) self.old.state }
         ensures state { self.new.state ≡ SessionStates.state_acknowledged (D.decides self.old.decider) self.old.state }
+        ensures events { self.new.events ≡ SessionViews.events_acknowledged false (D.decides self.old.decider) self.old.state self.old.events }
         ensures opening { IsSameOpening self.old.state self.new.state }
         ensures decider { self.new.decider ≡ self.old.decider }
         ensures whole { self.new.whole ≡ true }
@@ -72,6 +78,7 @@ impl<'d, D: Decider> SessionManagers<'d, D> {
         ensures all { result.all ≡ SessionStates.force_all_of (D.decides self.old.decider) self.old.state }
         ensures said { result.said ≡ SessionStates.all_forced (D.decides self.old.decider) self.old.state }
         ensures state { self.new.state ≡ SessionStates.state_forced (D.decides self.old.decider) self.old.state }
+        ensures events { self.new.events ≡ SessionViews.events_acknowledged true (D.decides self.old.decider) self.old.state self.old.events }
         ensures opening { IsSameOpening self.old.state self.new.state }
         ensures decider { self.new.decider ≡ self.old.decider }
         ensures whole { self.new.whole ≡ true }

@@ -14,7 +14,7 @@ use std::alloc::{AllocError, Global};
 /// client the mode of slot 0, which is 0 where the slot is free, and how many calls it made; and how often a call had another policy number than
 /// the one before it.
 #[derive(Drop)]
-pub struct Plain {
+pub struct PlainBoard {
     versions: Vec<u8>,
     pub settled: u32,
     posted: u32,
@@ -120,12 +120,12 @@ fn are_plain(asked: &[Asked], mode: u16, version: u8) -> bool {
     rest.is_empty()
 }
 
-impl Plain {
+impl PlainBoard {
     /// The board as it was opened.
-    fn opened(alloc: Global) -> Result<Plain, AllocError> {
+    fn opened(alloc: Global) -> Result<PlainBoard, AllocError> {
         let mut versions = Vec::new(alloc);
         versions.push(0)?;
-        Ok(Plain {
+        Ok(PlainBoard {
             versions,
             settled: 0,
             posted: 0,
@@ -273,8 +273,8 @@ impl Plain {
 pub fn judged(
     alloc: Global,
     history: &[Entry<BoardCall, BoardReply>],
-) -> Result<Option<Plain>, AllocError> {
-    let mut plain = Plain::opened(alloc)?;
+) -> Result<Option<PlainBoard>, AllocError> {
+    let mut plain = PlainBoard::opened(alloc)?;
     for entry in history {
         if !plain.takes(entry)? {
             return Ok(None);

@@ -12,7 +12,7 @@ mod run;
 
 pub use board::{Board, Chair, Office, Versions, opened};
 pub use callers::{Caller, Script, Work, seated};
-pub use judge::{Plain, judged};
+pub use judge::{PlainBoard, judged};
 pub use pace::Pace;
 pub use round::{Round, run_round};
 pub use run::{retire_all, work, work_beside};

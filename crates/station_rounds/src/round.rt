@@ -2,7 +2,7 @@
 
 use crate::board::{Versions, opened};
 use crate::callers::{Script, Work, seated};
-use crate::judge::{Plain, judged};
+use crate::judge::{PlainBoard, judged};
 use crate::pace::Pace;
 use crate::run::{retire_all, work_beside};
 use std::alloc::Global;
@@ -13,7 +13,7 @@ use std::thread::Threads;
 /// pace was kept.
 #[derive(Drop)]
 pub struct Round {
-    pub plain: Option<Plain>,
+    pub plain: Option<PlainBoard>,
     pub settled: u32,
     pub paced: bool,
 }

@@ -28,3 +28,6 @@ returns-clause-state g c = rw (← c.self.view_is, c.counted-self-inside.ensures
 
 pub returns-clause-whole : goal.returns-clause-whole
 returns-clause-whole g c = (acked g c).whole
+
+pub returns-clause-events : goal.returns-clause-events
+returns-clause-events g c = rw (← c.self.view_is) ((acked g c).events)

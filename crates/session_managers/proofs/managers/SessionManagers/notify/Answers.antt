@@ -25,3 +25,6 @@ returns-clause-state g c = rw (← c.self.view_is) ((notified g c).state)
 
 pub returns-clause-whole : goal.returns-clause-whole
 returns-clause-whole g c = (notified g c).whole
+
+pub returns-clause-events : goal.returns-clause-events
+returns-clause-events g c = rw (← c.self.view_is) ((notified g c).events)

@@ -23,3 +23,6 @@ pub returns-clause-state : goal.returns-clause-state
 returns-clause-state g c =
     rw (← c.self.view_is) (updated_state g.D.Decider.decides c.self.inside.changes c.update_all.new.self c.self.invariant.0 c.args.k c.update_all.new.left
     c.self.inside.calls c.self.inside.denied c.self.inside.completed (updated g c))
+
+pub returns-clause-events : goal.returns-clause-events
+returns-clause-events g c = rw (← c.self.view_is) ((updated g c).events)
