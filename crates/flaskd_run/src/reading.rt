@@ -1,8 +1,8 @@
 //! Reading the source to its end, up to the input limit.
 
-ghost use Rattle.std.specs.Prelude.{◌≡◌, ◌+◌, ◌<◌, ◌≤◌, [], Err, IfOk, OnOk, vec_len};
+ghost use Rattle.std.specs.Prelude.{◌≡◌, ◌+◌, ◌<◌, ◌≤◌, [], Err, OnOk, vec_len};
 ghost use Rattle.flask_io.specs.Streams.{Takes, HasCause};
-ghost use Rattle.flaskd_run.specs.Reading.{IsEnd, TakesOn, IsMore};
+ghost use Rattle.flaskd_run.specs.Reading.{IsEnd};
 
 use flask_io::{Got, Source};
 
@@ -20,7 +20,7 @@ pub enum ReadStop {
 }
 
 /// Reads all that the source has left into the empty `bytes`, or one byte more than an input may have. Also
-/// where it stops before, `bytes` is all that was taken.
+/// where it stops before, `bytes` is all that was taken. A read asks for as many bytes as pass the limit by one at most.
 pub fn read_all<S: Source>(source: &mut S, bytes: &mut Vec<u8>) -> Result<(), ReadStop>
     requires { bytes.old.items ≡ [] }
     ensures takes { Takes (S.left source.old) (S.left source.new) bytes.new.items }
@@ -29,34 +29,20 @@ pub fn read_all<S: Source>(source: &mut S, bytes: &mut Vec<u8>) -> Result<(), Re
     ensures cause { HasCause (S.faults source.old) (S.faults source.new) (result ≡ Err ReadStop.Fault) }
 {
     'reading: while bytes.len() <= INPUT_LIMIT {
-        if !read_more(source, bytes)? {
-            return Ok(());
+        let Ok(()) = bytes.reserve(CHUNK) else {
+            return Err(ReadStop::Memory);
+        };
+        let mut chunk = [0; CHUNK];
+        match source.read(&mut chunk[..room(bytes.len())]) {
+            Got::Failed => return Err(ReadStop::Fault),
+            Got::End => return Ok(()),
+            Got::Bytes(n) => {
+                // There is room for a chunk, so this takes no memory.
+                let _ = bytes.extend_from_slice(&chunk[..n]);
+            }
         }
     }
     Ok(())
-}
-
-/// Reads some bytes to the end of `bytes`, at most as many as pass the limit by one. False where nothing is left.
-fn read_more<S: Source>(source: &mut S, bytes: &mut Vec<u8>) -> Result<bool, ReadStop>
-    requires { vec_len bytes.old ≤ INPUT_LIMIT }
-    ensures takes { TakesOn (S.left source.old) (S.left source.new) bytes.old.items bytes.new.items }
-    ensures bounded { vec_len bytes.new ≤ 4194305 }
-    ensures more { IfOk result (λ some. IsMore some (vec_len bytes.old) (vec_len bytes.new) (S.left source.new)) }
-    ensures cause { HasCause (S.faults source.old) (S.faults source.new) (result ≡ Err ReadStop.Fault) }
-{
-    let Ok(()) = bytes.reserve(CHUNK) else {
-        return Err(ReadStop::Memory);
-    };
-    let mut chunk = [0; CHUNK];
-    match source.read(&mut chunk[..room(bytes.len())]) {
-        Got::Failed => Err(ReadStop::Fault),
-        Got::End => Ok(false),
-        Got::Bytes(n) => {
-            // There is room for a chunk, so this takes no memory.
-            let _ = bytes.extend_from_slice(&chunk[..n]);
-            Ok(true)
-        }
-    }
 }
 
 /// How many bytes may be read where so many were: at most a chunk, and at most one past the limit.
