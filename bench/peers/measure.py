@@ -11,6 +11,7 @@ import os
 import pathlib
 import random
 import shutil
+import statistics
 import subprocess
 import sys
 import tempfile
@@ -92,6 +93,11 @@ def took(words, path):
     return (usage.ru_utime + usage.ru_stime) * 1e9
 
 
+def share(proved, peer):
+    """The ratio of medians, which is small."""
+    return f"{statistics.median(proved) / statistics.median(peer):.4f}"
+
+
 def decisions(place, asked):
     """Single decisions, where libsepol can be linked, `secilc` has written its policy, and the program of look-ups is built."""
     timing.head("a vector by drawn pairs of 128 types", "proved, best / median, ns", "the peer", "ratio of medians")
@@ -103,12 +109,12 @@ def decisions(place, asked):
         if not there:
             print(f"bench: there is no {what} on this machine", file=sys.stderr)
             return
-    text, figures = (place / "own").read_text(), ([], [])
+    text, figures = (place / "own").read_text().removesuffix(SESSION), ([], [])
     for _ in range(asked.runs):
         for found, words, rounds, given in ((figures[0], [look, "look", "100"], 100, text), (figures[1], [decision, place / "binary", "1"], 1, None)):
             told = subprocess.run([str(word) for word in words], input=given, capture_output=True, text=True, check=True)
             found.append(int(told.stdout.split()[0]) / rounds / KEYS)
-    timing.row("beside `sepol_compute_av`", timing.shown(figures[0], digits=1), timing.shown(figures[1], digits=1), timing.ratio(*figures))
+    timing.row("beside `sepol_compute_av`", timing.shown(figures[0], digits=1), timing.shown(figures[1], digits=1), share(*figures))
 
 
 def measure(programs, asked):
@@ -130,5 +136,5 @@ def measure(programs, asked):
                 continue
             figures = [(took([flaskd, "serial"], own), took(words, path)) for _ in range(asked.runs)]
             proved, peer = [one[0] for one in figures], [one[1] for one in figures]
-            timing.row(f"beside `{name}`", timing.shown(proved, 1_000_000, 2), timing.shown(peer, 1_000_000, 2), timing.ratio(proved, peer))
+            timing.row(f"beside `{name}`", timing.shown(proved, 1_000_000, 2), timing.shown(peer, 1_000_000, 2), share(proved, peer))
         decisions(place, asked)
