@@ -2,7 +2,7 @@
 
 use flask_sid::Memory;
 use std::alloc::Global;
-use text_lines::{Words, first_line};
+use text_lines::Words;
 
 /// A word of a line.
 #[derive(Clone, Copy)]
@@ -13,22 +13,22 @@ pub(crate) struct Span<'a> {
 }
 
 /// The lines of a text, one after another. What stands behind the last line end is a line where it is not empty.
-#[derive(Clone, Copy)]
+#[derive(Drop)]
 pub struct Lines<'a> {
-    rest: &'a [u8],
+    rest: text_lines::Lines<'a>,
 }
 
 impl<'a> Lines<'a> {
     /// The lines of a text from the first one on.
     pub fn new(bytes: &'a [u8]) -> Lines<'a> {
-        Lines { rest: bytes }
+        Lines {
+            rest: text_lines::Lines::of(bytes),
+        }
     }
 
     /// The next line, or `None` behind the last one.
     pub fn next(&mut self) -> Option<&'a [u8]> {
-        let (line, rest) = first_line(self.rest)?;
-        self.rest = rest;
-        Some(line)
+        Some(self.rest.next()?.as_bytes())
     }
 }
 

@@ -1,25 +1,19 @@
 -- What a row of the manager's code owes its row of the plain manager.
-use Rattle.std.specs.Prelude.{◌≡◌, ℕ, ◌<◌, Bool, true, false, length, is_some, List, Some, bit_and, Result, Ok, Err}
-use Rattle.std.specs.FinMap as maps
+use Rattle.std.specs.Prelude.{◌≡◌, ℕ, ◌<◌, Bool, true, false, length, is_some, Some, Result, Ok, Err}
 use Rattle.flask_sid.specs.declared.memory.Memory.{Memory}
 use Rattle.access_vectors.specs.Decisions.{Decisions}
 use Rattle.access_vectors.specs.Phases.{version_at, MayName}
 use Rattle.access_vectors.specs.Stale.{Follows, is_use_following}
 use Rattle.access_vectors.specs.declared.asker.Asker.{Ghosts}
-use Rattle.access_vectors.specs.declared.class.Class.TheVariants.{File}
 use Rattle.mode_questions.specs.Requests.{Request}
 use Rattle.mode_questions.specs.Operations.{request, IsSameOperation, HasAsked, HasUsed}
 use Rattle.mode_questions.specs.declared.operation.Operation.{Operation}
-use Rattle.retained_rights.specs.declared.grant.Usable.{Usable}
-use Rattle.file_tree.specs.PlainTree.{plain, item_of}
-use Rattle.file_tree.specs.declared.node.Node.{Node}
 use Rattle.file_calls.specs.PlainManager.{answered, followed_by, use_of, denial_of, when_done}
 use Rattle.file_calls.specs.States.{FileAnswer, sid_of}
 use Rattle.file_calls.specs.declared.call.FileCall.{FileCall}
 use Rattle.file_calls.specs.declared.call.FileReply.{FileReply}
 use Rattle.file_calls.specs.declared.call.FileReply.TheVariants as reply
 use Rattle.file_store.specs.Stores.{StoreView, Safe, state_of, follows}
-use Rattle.file_store.specs.Uses.{IsUse}
 
 -- files may serve a request: they keep their promise under its decider, its client is one of theirs, its subject is the
 -- client's identifier, and its number may be named, with its version
@@ -86,16 +80,6 @@ module _ {A : Type 0} {g : Ghosts A} where
       × Keeps r.decisions old new
       × HasUsed (is_use_following (use_of r.client call) (follows old) r.number) (is_some (denial_of said)) before after answer.asked
   ServesCall call (Err memory) old new before after = (new ≡ old) × IsSameOperation before after
-
--- for a request, the use of a slot of its client, and the bytes of the slot's file; where the slot follows the request's
--- number, its bits are those of its mode that the policy allows
-pub record IsHeld (r : Request) (shown : StoreView) (slot : ℕ) (usable : Usable) (bytes : List ℕ) : Type 0 where
-  pub usage : IsUse r.decisions shown r.client slot usable
-  pub bits : usable.number ≡ r.number → usable.bits ≡ bit_and usable.mode (r.decisions.vector r.version r.subject usable.t File)
-  pub node : Node
-  pub at : maps.get shown.nodes usable.object ≡ Some node
-  pub bytes_are : node.bytes ≡ Some bytes
-  pub file : maps.get (plain shown.nodes) node.path ≡ Some (item_of node)
 
 -- a reply that holds neither bytes nor names
 abbrev pub is_short : FileReply → Bool

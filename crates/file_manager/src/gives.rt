@@ -12,7 +12,6 @@ ghost use Rattle.file_manager.specs.Serving.{MayServe, ServesSlots};
 
 use crate::opens::MODE_PERMS;
 use crate::replies::{both, denied};
-use crate::slots::held;
 use access_vectors::Asker;
 use file_calls::FileReply;
 use file_store::{Files, Filling};
@@ -34,7 +33,7 @@ pub fn give<F: Callback, A: Asker>(
         ServesSlots (maps.insert (follows files.old) place r.number) result files.old files.new operation.old operation.new
         (give_row (with_subject r (sid_of state client)) state (slot_place r.client slot) place) }
 {
-    let Some((usable, _bytes)) = held(files, operation, slot) else {
+    let Some((usable, _bytes)) = files.held(operation.caller.client, slot) else {
         return Ok(both(FileReply::BadSlot));
     };
     if let Some(_other) = files.slot_use(client, target) {

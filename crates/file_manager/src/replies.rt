@@ -1,6 +1,6 @@
 //! The replies, each once for the history and once for the caller.
 
-ghost use Rattle.std.specs.Prelude.{◌≡◌, true, take, drop, IfOk};
+ghost use Rattle.std.specs.Prelude.{◌≡◌, true, IfOk};
 ghost use Rattle.file_calls.specs.declared.call.FileReply.{FileReply};
 ghost use Rattle.file_manager.specs.Serving.{is_short};
 ghost use Rattle.file_manager.specs.Walking;
@@ -61,33 +61,6 @@ pub fn stopped(stop: Stop) -> Doubled<FileReply>
         Stop::NotDir => both(FileReply::NotDir),
         Stop::Denied { perm, policy } => denied(perm, policy),
     }
-}
-
-/// At most `most` of the bytes from `offset` on.
-#[inline(always)]
-pub fn read_bytes(
-    alloc: Global,
-    bytes: &[u8],
-    offset: u32,
-    most: u32,
-) -> Result<Doubled<FileReply>, Memory>
-    ensures { IfOk result (λ reply. reply ≡ FileReply.Bytes (take most (drop offset bytes.now))) }
-{
-    let bytes = part(bytes, offset, most);
-    let kept = Piece::of(alloc, bytes)?;
-    let told = Piece::of(alloc, bytes)?;
-    Ok(Doubled::of(FileReply::Bytes(kept), FileReply::Bytes(told)))
-}
-
-/// At most `most` of the bytes from `offset` on.
-#[inline(always)]
-fn part(bytes: &[u8], offset: u32, most: u32) -> &[u8]
-    ensures { result.now ≡ take most (drop offset bytes.now) }
-{
-    let start = bytes.len().min(offset as usize);
-    let (_before, rest) = bytes.split_at(start);
-    let (part, _behind) = rest.split_at(rest.len().min(most as usize));
-    part
 }
 
 /// Some names.

@@ -1,6 +1,6 @@
 //! Taking entries out of their directory.
 
-ghost use Rattle.std.specs.Prelude.{◌≡◌, ◌<◌, true, length, is_some, option_map};
+ghost use Rattle.std.specs.Prelude.{◌<◌, length, option_map};
 ghost use Rattle.std.specs.FinMap as maps;
 ghost use Rattle.mode_questions.specs.Operations.{request};
 ghost use Rattle.file_tree.specs.Nodes.{path_in};

@@ -3,7 +3,7 @@
 ghost use Rattle.std.specs.Prelude.{◌≡◌, ℕ, ◌<◌, true, List, [], is_some, length, IsTrue};
 ghost use Rattle.std.specs.FinMap as maps;
 ghost use Rattle.mode_questions.specs.Operations.{request, HasAsked};
-ghost use Rattle.file_tree.specs.Nodes.{Nodes, path_in};
+ghost use Rattle.file_tree.specs.Nodes.{Nodes};
 ghost use Rattle.file_tree.specs.PlainTree.{plain};
 ghost use Rattle.file_calls.specs.Walks;
 ghost use Rattle.file_calls.specs.Walks.{Walk, walked_from};

@@ -9,7 +9,7 @@ ghost use Rattle.file_store.specs.Stores.{state_of};
 ghost use Rattle.file_manager.specs.Serving.{MayServe, ServesThrough};
 
 use crate::replies::{both, denied};
-use crate::slots::{held, usage_of};
+use crate::slots::usage_of;
 use access_vectors::Asker;
 use access_vectors::perms::{FILE_APPEND, FILE_WRITE};
 use file_calls::FileReply;
@@ -33,7 +33,7 @@ pub fn write<F: Callback, A: Asker>(
     ensures { let r = request operation.old in let place = slot_place r.client slot in
         ServesThrough place result files.old files.new operation.old operation.new (write_row r (state_of files.old) place offset piece.now) }
 {
-    let Some((usable, _bytes)) = held(files, operation, slot) else {
+    let Some((usable, _bytes)) = files.held(operation.caller.client, slot) else {
         return Ok(both(FileReply::BadSlot));
     };
     if !usable.mode.has(FILE_WRITE.index()) {
@@ -60,7 +60,7 @@ pub fn append<F: Callback, A: Asker>(
     ensures { let r = request operation.old in let place = slot_place r.client slot in
         ServesThrough place result files.old files.new operation.old operation.new (append_row r (state_of files.old) place piece.now) }
 {
-    let Some((usable, bytes)) = held(files, operation, slot) else {
+    let Some((usable, bytes)) = files.held(operation.caller.client, slot) else {
         return Ok(both(FileReply::BadSlot));
     };
     if !usable.mode.has(FILE_APPEND.index()) {

@@ -1,5 +1,5 @@
 -- How files and rights stay in step, and their promise under a decider.
-use Rattle.std.proofs.Common.{◌≡◌, ℕ, ◌<◌, IsTrue, List, Some, ap, subst, ◌∙◌}
+use Rattle.std.proofs.Common.{◌≡◌, ℕ, ◌<◌, IsTrue, Some, ap, subst, ◌∙◌}
 use Rattle.std.specs.Prelude.{slice_index}
 use Rattle.std.specs.Ordering.{nat_cmp}
 use Rattle.std.specs.FinMap as maps
@@ -13,7 +13,6 @@ use Rattle.retained_rights.proofs.StepLemmas as steps
 use Rattle.file_tree.specs.Nodes.{Nodes}
 use Rattle.file_tree.specs.declared.node.Node.{Node}
 use Rattle.file_calls.specs.States.{Held, with_slots}
-use Rattle.file_tree.specs.PlainTree.{IsWellMade}
 use Rattle.file_store.specs.Stores.{StoreView, IsFileOf, IsLinked, IsInStep, Safe, slots_of, state_of}
 use Rattle.file_store.specs.Laws.{safe_is}
 

@@ -15,7 +15,7 @@ use Rattle.file_tree.specs.PlainTree.{PlainTree, plain, plain_without, IsWellMad
 use Rattle.file_tree.specs.declared.node.Node.{Node}
 use Rattle.file_calls.specs.PathCalls.{is_held_at, slots_without, taken_out}
 use Rattle.file_calls.specs.PlainManager.{follows_moved, follows_without}
-use Rattle.file_calls.specs.States.{Held, with_tree}
+use Rattle.file_calls.specs.States.{with_tree}
 use Rattle.file_store.specs.Stores.{StoreView, IsFileOf, IsLinked, IsInStep, Safe, held_by, state_of, slots_of, follows}
 use Rattle.file_store.specs.Laws.{safe_is}
 use Rattle.file_store.proofs.Linking.{AreKnown, with_both, safe_moved}

@@ -1,5 +1,5 @@
 -- How files and rights show the plain manager's state: a slot holds a grant on a numbered file of the tree.
-use Rattle.std.specs.Prelude.{◌≡◌, ℕ, ◌/◌, true, IsTrue, All, List, [], slice_index, Some, refl}
+use Rattle.std.specs.Prelude.{◌≡◌, ℕ, ◌/◌, true, IsTrue, All, List, slice_index, Some, refl}
 use Rattle.std.specs.Ordering.{nat_cmp}
 use Rattle.std.specs.FinMap as maps
 use Rattle.std.specs.FinMap.{FinMap}

@@ -1,5 +1,5 @@
 -- What a used slot lets its client do.
-use Rattle.std.specs.Prelude.{◌≡◌, ℕ, Some, None, IsTrue, bit_and}
+use Rattle.std.specs.Prelude.{◌≡◌, ℕ, List, Some, None, IsTrue, bit_and}
 use Rattle.std.specs.FinMap as maps
 use Rattle.access_vectors.specs.Decisions.{Decisions}
 use Rattle.access_vectors.specs.Phases.{version_at, MayName}
@@ -7,6 +7,8 @@ use Rattle.access_vectors.specs.Stale.{slot_place}
 use Rattle.access_vectors.specs.declared.class.Class.TheVariants.{File}
 use Rattle.retained_rights.specs.declared.grant.Usable.{Usable}
 use Rattle.file_tree.specs.Nodes.{path_in}
+use Rattle.file_tree.specs.PlainTree.{plain, item_of}
+use Rattle.file_tree.specs.declared.node.Node.{Node}
 use Rattle.file_calls.specs.States.{sid_of}
 use Rattle.file_store.specs.Stores.{StoreView, IsFileOf, state_of, follows}
 
@@ -22,6 +24,13 @@ pub record IsUse (d : Decisions) (shown : StoreView) (client slot : ℕ) (usable
   pub known_target : IsTrue (d.known usable.t)
   pub bits : (number : ℕ) → MayName shown.rights.phase number → usable.number ≡ number
       → usable.bits ≡ bit_and usable.mode (d.vector (version_at shown.rights.phase number) usable.s usable.t File)
+
+-- a numbered node is a file of these bytes
+pub record HasBytes (shown : StoreView) (object : ℕ) (bytes : List ℕ) : Type 0 where
+  pub node : Node
+  pub at : maps.get shown.nodes object ≡ Some node
+  pub bytes_are : node.bytes ≡ Some bytes
+  pub file : maps.get (plain shown.nodes) node.path ≡ Some (item_of node)
 
 -- a client's slot is free
 pub record IsFree (shown : StoreView) (client slot : ℕ) : Type 0 where

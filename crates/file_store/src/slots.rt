@@ -1,6 +1,6 @@
 //! Slots: what they let their clients do, and how they are filled and freed.
 
-ghost use Rattle.std.specs.Prelude.{◌≡◌, IsTrue, OnOk, OnErr, MatchOption};
+ghost use Rattle.std.specs.Prelude.{◌≡◌, IsTrue, IfSome, OnOk, OnErr, MatchOption};
 ghost use Rattle.std.specs.FinMap as maps;
 ghost use Rattle.access_vectors.specs.Decisions.{Decisions};
 ghost use Rattle.access_vectors.specs.Phases.{version_at, MayName};
@@ -9,7 +9,7 @@ ghost use Rattle.file_tree.specs.Nodes.{path_in};
 ghost use Rattle.file_calls.specs.SlotCalls.{filled};
 ghost use Rattle.file_calls.specs.States.{sid_of, with_slots};
 ghost use Rattle.file_store.specs.Stores.{IsFileOf, Safe, state_of, follows};
-ghost use Rattle.file_store.specs.Uses.{IsFree, IsUse};
+ghost use Rattle.file_store.specs.Uses.{HasBytes, IsFree, IsUse};
 
 use crate::files::Files;
 use crate::filling::Filling;
@@ -24,6 +24,20 @@ impl<F: Callback> Files<F> {
             (λ usable. (d : Decisions) → Safe d self.now → IsUse d self.now client slot usable) }
     {
         self.grants.usable(client, slot)
+    }
+
+    /// What a client's slot holds, or `None` exactly where the slot is free: what it lets the client do, and the bytes of its
+    /// file.
+    #[inline(always)]
+    pub fn held(&self, client: u8, slot: u8) -> Option<(Usable, &[u8])>
+        ensures told { MatchOption result (IsFree self.now client slot)
+            (λ held. (d : Decisions) → Safe d self.now → IsUse d self.now client slot held.0) }
+        ensures bytes { IfSome result (λ held. HasBytes self.now held.0.object held.1.now) }
+    {
+        let usable = self.grants.usable(client, slot)?;
+        let node = self.tree.node(usable.object).unwrap();
+        let bytes = node.bytes.as_ref().unwrap();
+        Some((usable, bytes.as_bytes()))
     }
 
     /// Fills a client's free slot, under a policy number whose version the asker has. After `Memory` all is as before.

@@ -1,22 +1,30 @@
 //! `flaskd`: runs the program over standard input and standard output.
 #![tactic(auto)]
 
-use flask_io::{ReaderSource, Sink, Source, WriterSink};
+use flask_io::{ReaderSource, WriterSink};
 use flask_sid::{Memory, Word};
 use flaskd_run::{NoStops, Status, flaskd, status_text};
 use std::alloc::Global;
 use std::io::{self, ErrorKind};
 use std::process::ExitCode;
-use std::sync::Wait;
-use std::thread::Threads;
 
 fn main(rt: HostRuntime) -> io::Result<ExitCode> {
     let status = match texts(&rt) {
-        Ok(texts) => {
-            let mut source = ReaderSource::new(rt.stdin());
-            let mut sink = WriterSink::new(rt.stdout());
-            run(&rt, rt.alloc(), &texts, &mut source, &mut sink).unwrap_or(Status::Memory)
-        }
+        Ok(texts) => match words_of(rt.alloc(), &texts) {
+            Ok(words) => {
+                let mut source = ReaderSource::new(rt.stdin());
+                let mut sink = WriterSink::new(rt.stdout());
+                flaskd(
+                    &rt,
+                    rt.alloc(),
+                    words.as_slice(),
+                    &mut source,
+                    &mut sink,
+                    &NoStops,
+                )
+            }
+            Err(Memory) => Status::Memory,
+        },
         Err(status) => status,
     };
     if status != Status::Ok {
@@ -38,17 +46,11 @@ fn texts(rt: &HostRuntime) -> Result<Vec<String>, Status> {
     }
 }
 
-/// Runs the program by these words.
-fn run<R: Threads + Wait + Sync, S: Source, K: Sink>(
-    rt: &R,
-    alloc: Global,
-    texts: &[String],
-    source: &mut S,
-    sink: &mut K,
-) -> Result<Status, Memory> {
+/// The words as bytes.
+fn words_of(alloc: Global, texts: &[String]) -> Result<Vec<Word<'_>>, Memory> {
     let mut words = Vec::new(alloc);
     for text in texts {
         words.push(Word::new(text.as_bytes()))?;
     }
-    Ok(flaskd(rt, alloc, words.as_slice(), source, sink, &NoStops))
+    Ok(words)
 }

@@ -71,30 +71,9 @@ pub fn flaskd<R: Threads + Wait + Sync, S: Source, K: Sink, G: Stops + Sync>(
     let Some(asked) = asked else {
         return Status::Usage;
     };
-    if reads_input(&asked) {
-        read_and_serve(rt, alloc, asked, source, stops, sink)
-    } else {
-        serve(rt, alloc, asked, &[], stops, sink)
+    if !reads_input(&asked) {
+        return serve(rt, alloc, asked, &[], stops, sink);
     }
-}
-
-/// Reads the source to its end, and does what a command asks with its bytes.
-fn read_and_serve<R: Threads + Wait + Sync, S: Source, K: Sink, G: Stops + Sync>(
-    rt: &R,
-    alloc: Global,
-    asked: Command,
-    source: &mut S,
-    stops: &G,
-    sink: &mut K,
-) -> Status
-    requires reads { Tasks.reads_input asked ≡ true }
-    requires ranged { IsRanged asked }
-    ensures ran { Top.Ran result (Some asked) (S.left source.old) (S.left source.new) (K.written sink.old) (K.written sink.new) }
-    ensures command { result ≡ Status.Usage → ⊥ }
-    ensures read_fault { HasCause (S.faults source.old) (S.faults source.new) (result ≡ Status.ReadFault) }
-    ensures write_fault { HasCause (K.faults sink.old) (K.faults sink.new) (result ≡ Status.WriteFault) }
-    ensures silent { Top.IsSilent result → sink.new ≡ sink.old }
-{
     let mut bytes = Vec::new(alloc);
     match read_all(source, &mut bytes) {
         Err(ReadStop::Fault) => Status::ReadFault,
@@ -108,7 +87,7 @@ fn read_and_serve<R: Threads + Wait + Sync, S: Source, K: Sink, G: Stops + Sync>
     }
 }
 
-/// Does what a command asks, with these bytes where it reads them.
+/// Does what a command asks, with these bytes where it reads them: what is to be done, under a policy that compiles.
 fn serve<R: Threads + Wait + Sync, K: Sink, G: Stops + Sync>(
     rt: &R,
     alloc: Global,
@@ -123,26 +102,11 @@ fn serve<R: Threads + Wait + Sync, K: Sink, G: Stops + Sync>(
     ensures silent { Top.IsSilent result → sink.new ≡ sink.old }
     ensures cause { HasCause (K.faults sink.old) (K.faults sink.new) (result ≡ Status.WriteFault) }
 {
-    match task_of(alloc, asked, bytes) {
-        Err(TextFault::Memory) => Status::Memory,
-        Err(TextFault::Text { line, kind }) => Status::BadText { line, kind },
-        Ok(task) => run(rt, alloc, task, stops, sink),
-    }
-}
-
-/// Compiles a task's policy, does the task and writes what it prints.
-fn run<R: Threads + Wait + Sync, K: Sink, G: Stops + Sync>(
-    rt: &R,
-    alloc: Global,
-    task: Task,
-    stops: &G,
-    sink: &mut K,
-) -> Status
-    ensures served { Top.Served result (Ok task) (K.written sink.old) (K.written sink.new) }
-    ensures command { result ≡ Status.Usage → ⊥ }
-    ensures silent { Top.IsSilent result → sink.new ≡ sink.old }
-    ensures cause { HasCause (K.faults sink.old) (K.faults sink.new) (result ≡ Status.WriteFault) }
-{
+    let task = match task_of(alloc, asked, bytes) {
+        Err(TextFault::Memory) => return Status::Memory,
+        Err(TextFault::Text { line, kind }) => return Status::BadText { line, kind },
+        Ok(task) => task,
+    };
     match compile(alloc, task.policy()) {
         Err(fault) => refused(alloc, task.policy().parts(), fault),
         Ok(catalogue) => match write(rt, alloc, task, &catalogue, stops, sink) {

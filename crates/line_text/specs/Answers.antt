@@ -67,10 +67,14 @@ front_of line client manager number = record { line = line; client = client; man
 abbrev pub admin_words : ℕ → List (List ℕ)
 admin_words line = decimal line ∷ codes "admin" ∷ []
 
+-- which call it was, with what it got
+abbrev pub replied_words : List (ContextOf (List ℕ)) → List ClientLine → Front → Answer Reply → List (List ℕ)
+replied_words contexts clients front got = front_words clients front ++ got_words contexts got
+
 -- what the line of a number came to: the call with what it got, or that its client holds a pass of the number or gave it back, or what the
 -- administrator was told
 abbrev pub answer_words : List (ContextOf (List ℕ)) → List ClientLine → ℕ → LineAnswer → List (List ℕ)
-answer_words contexts clients line (answer.Replied client manager number got) = front_words clients (front_of line client manager number) ++ got_words contexts got
+answer_words contexts clients line (answer.Replied client manager number got) = replied_words contexts clients (front_of line client manager number) got
 answer_words contexts clients line (answer.Begun client manager number) = front_words clients (front_of line client manager number) ++ codes "begun" ∷ []
 answer_words contexts clients line (answer.Ended client manager number) = front_words clients (front_of line client manager number) ++ codes "ended" ∷ []
 answer_words contexts clients line (answer.Notified said) = admin_words line ++ notice_words said

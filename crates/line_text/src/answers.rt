@@ -1,10 +1,9 @@
 //! What a line came to, as a line of words.
 
-ghost use Rattle.std.specs.Prelude.{◌≡◌, ◌++◌, OnOk, OnErr};
-ghost use Rattle.std.specs.List.{flat_map};
-ghost use Rattle.text_print.specs.Printed.{behind, spaced, ended};
+ghost use Rattle.std.specs.Prelude.{◌≡◌, ◌++◌, ◌∷◌, [], OnOk, OnErr};
+ghost use Rattle.text_print.specs.Printed.{spaced, ended};
 ghost use Rattle.session_managers.specs.One.{got_answer};
-ghost use Rattle.session_runner.specs.Runs.{shown_call};
+ghost use Rattle.answer_text.specs.Fronts.{front_words};
 ghost use Rattle.text_print.specs.Fronts.{IsFront};
 ghost use Rattle.line_text.specs.Answers;
 
@@ -30,43 +29,6 @@ pub fn put_answer(
     ensures ok { OnOk result (out.new ≡ out.old ++ ended (Answers.answer_words contexts.now clients.now line answer.now)) }
     ensures err { OnErr result (IsFront out.old out.new) }
 {
-    put_words(out, contexts, clients, line, answer)?;
-    out.push(b'\n')
-}
-
-/// Puts what a client's call got, with its line end.
-#[inline(always)]
-pub fn put_call(
-    out: &mut Text,
-    contexts: &SidTable,
-    clients: &[ClientLine],
-    called: &Called<'_>,
-) -> Result<(), Memory>
-    ensures ok { let one = shown_call called.now in OnOk result (out.new ≡ out.old ++ ended (Answers.answer_words contexts.now clients.now one.line one.answer)) }
-    ensures err { OnErr result (IsFront out.old out.new) }
-{
-    let Caller {
-        client,
-        manager,
-        number,
-        version: _,
-    } = called.caller;
-    put_front(out, clients, front_of(called.line, client, manager, number))?;
-    put_got(out, contexts, called.got)?;
-    out.push(b'\n')
-}
-
-#[inline(always)]
-fn put_words(
-    out: &mut Text,
-    contexts: &SidTable,
-    clients: &[ClientLine],
-    line: u32,
-    answer: &LineAnswer,
-) -> Result<(), Memory>
-    ensures ok { OnOk result (out.new ≡ out.old ++ spaced (Answers.answer_words contexts.now clients.now line answer.now)) }
-    ensures err { OnErr result (IsFront out.old out.new) }
-{
     match answer {
         LineAnswer::Replied {
             client,
@@ -74,38 +36,87 @@ fn put_words(
             number,
             got,
         } => {
-            put_front(out, clients, front_of(line, *client, *manager, *number))?;
-            put_got(out, contexts, Got::of(got))
+            let front = front_of(line, *client, *manager, *number);
+            put_call(out, contexts, clients, front, Got::of(got))
         }
         LineAnswer::Begun {
             client,
             manager,
             number,
         } => {
-            put_front(out, clients, front_of(line, *client, *manager, *number))?;
-            put_word(out, b"begun")
+            let front = front_of(line, *client, *manager, *number);
+            put_pass(out, clients, front, b"begun")
         }
         LineAnswer::Ended {
             client,
             manager,
             number,
         } => {
-            put_front(out, clients, front_of(line, *client, *manager, *number))?;
-            put_word(out, b"ended")
+            let front = front_of(line, *client, *manager, *number);
+            put_pass(out, clients, front, b"ended")
         }
         LineAnswer::Notified(said) => {
             put_admin(out, line)?;
-            put_notice(out, said)
+            put_notice(out, said)?;
+            out.push(b'\n')
         }
         LineAnswer::Updated(left) => {
             put_admin(out, line)?;
-            put_updated(out, left)
+            put_updated(out, left)?;
+            out.push(b'\n')
         }
         LineAnswer::Acknowledged(acks) => {
             put_admin(out, line)?;
-            put_acks(out, acks)
+            put_acks(out, acks)?;
+            out.push(b'\n')
         }
     }
+}
+
+/// Puts what a client's call got behind which call it was, with its line end.
+#[inline(always)]
+pub fn put_call(
+    out: &mut Text,
+    contexts: &SidTable,
+    clients: &[ClientLine],
+    front: Front,
+    got: Got<'_>,
+) -> Result<(), Memory>
+    ensures ok { OnOk result (out.new ≡ out.old ++ ended (Answers.replied_words contexts.now clients.now front (got_answer got.entry))) }
+    ensures err { OnErr result (IsFront out.old out.new) }
+{
+    put_front(out, clients, front)?;
+    match got {
+        Got::File(reply) => reply.put(out, contexts)?,
+        Got::Process(reply) => reply.put(out, contexts)?,
+        Got::Port(reply) => reply.put(out, contexts)?,
+        Got::Aborted => put_aborted(out)?,
+    }
+    out.push(b'\n')
+}
+
+/// Puts what a client's pass came to behind whose pass it is, with its line end.
+fn put_pass(out: &mut Text, clients: &[ClientLine], front: Front, word: &[u8]) -> Result<(), Memory>
+    ensures ok { OnOk result (out.new ≡ out.old ++ ended (front_words clients.now front ++ word.now ∷ [])) }
+    ensures err { OnErr result (IsFront out.old out.new) }
+{
+    put_front(out, clients, front)?;
+    put_word(out, word)?;
+    out.push(b'\n')
+}
+
+/// Which call it was.
+#[inline(always)]
+pub fn front_of_call(called: &Called<'_>) -> Front
+    ensures { let caller = called.now.caller in result ≡ Answers.front_of called.now.line caller.client caller.manager caller.number }
+{
+    let Caller {
+        client,
+        manager,
+        number,
+        version: _,
+    } = called.caller;
+    front_of(called.line, client, manager, number)
 }
 
 #[inline(always)]
@@ -128,18 +139,4 @@ fn put_admin(out: &mut Text, line: u32) -> Result<(), Memory>
 {
     put_number(out, u64::from(line))?;
     put_word(out, b"admin")
-}
-
-/// Puts what a call got.
-#[inline(always)]
-fn put_got(out: &mut Text, contexts: &SidTable, got: Got<'_>) -> Result<(), Memory>
-    ensures ok { OnOk result (out.new ≡ out.old ++ flat_map behind (Answers.got_words contexts.now (got_answer got.entry))) }
-    ensures err { OnErr result (IsFront out.old out.new) }
-{
-    match got {
-        Got::File(reply) => reply.put(out, contexts),
-        Got::Process(reply) => reply.put(out, contexts),
-        Got::Port(reply) => reply.put(out, contexts),
-        Got::Aborted => put_aborted(out),
-    }
 }

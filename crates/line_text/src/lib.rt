@@ -4,4 +4,4 @@
 mod answers;
 mod changes;
 
-pub use answers::{put_answer, put_call};
+pub use answers::{front_of_call, put_answer, put_call};

@@ -31,7 +31,7 @@ fn write_client<K: Sink>(
     let mut out = Text::new(alloc);
     'lines: for line in lines {
         put_text(&mut out, line, contexts, name)?;
-        put_gathered(sink, &mut out)?;
+        put_gathered(sink, &mut out, false)?;
     }
     put_line(sink, &out)
 }

@@ -8,6 +8,6 @@ mod setting;
 mod stop;
 
 pub use auditing::write_audit;
-pub use gathering::{put_gathered, put_now};
+pub use gathering::put_gathered;
 pub use setting::Setting;
 pub use stop::{RunStop, put_line};

@@ -1,18 +1,14 @@
 //! What the lines of a session print, as each is run.
 
-ghost use Rattle.std.specs.Prelude.{◌≡◌, ◌-◌, ◌<◌, length, replicate, [], Some, Err, IfOk, OnOk, OnErr};
+ghost use Rattle.std.specs.Prelude.{◌≡◌, ◌-◌, ◌<◌, length, replicate, [], true, false, Some, IfOk, OnOk};
 ghost use Rattle.audit_log.specs.Logs.{Gains};
-ghost use Rattle.flask_io.specs.Streams.{HasCause};
-ghost use Rattle.run_output.specs.Gathering.{GoesOut, PutsOrWaits};
-ghost use Rattle.run_output.specs.Writing.{AddsFront};
-ghost use Rattle.run_output.specs.declared.stop.RunStop.{RunStop};
 ghost use Rattle.serial_run.specs.Serial;
 
 use audit_log::{Acting, AuditLog};
 use flask_io::Sink;
 use flask_sid::{Memory, Text};
-use line_text::{put_answer, put_call};
-use run_output::{RunStop, Setting, put_gathered, put_now};
+use line_text::{front_of_call, put_answer, put_call};
+use run_output::{RunStop, Setting, put_gathered};
 use session_runner::{Called, LineAnswer, Recorder};
 use std::alloc::Global;
 
@@ -65,33 +61,29 @@ impl<'a, K: Sink> Recorder<K> for Printing<'a> {
     #[inline(always)]
     fn take_call(&mut self, called: Called<'_>, sink: &mut K) -> Result<(), RunStop> {
         let (contexts, clients) = (self.setting.contexts, self.setting.clients);
-        put_call(&mut self.gathered, contexts, clients, &called)?;
+        let front = front_of_call(&called);
+        put_call(&mut self.gathered, contexts, clients, front, called.got)?;
         log_call(&self.setting, &mut self.log, &called)?;
-        put_next(sink, &mut self.gathered, &mut self.alone)
+        put_gathered(sink, &mut self.gathered, goes_alone(&mut self.alone))
     }
 
     fn take(&mut self, line: u32, answer: LineAnswer, sink: &mut K) -> Result<(), RunStop> {
         let (contexts, clients) = (self.setting.contexts, self.setting.clients);
         put_answer(&mut self.gathered, contexts, clients, line, &answer)?;
-        put_next(sink, &mut self.gathered, &mut self.alone)
+        put_gathered(sink, &mut self.gathered, goes_alone(&mut self.alone))
     }
 }
 
-/// Writes the answers that wait: where answers still go out alone at once, and else where they are enough for a write.
+/// Whether answers still go out alone. If so, one fewer does now.
 #[inline(always)]
-fn put_next<K: Sink>(sink: &mut K, gathered: &mut Text, alone: &mut u8) -> Result<(), RunStop>
-    ensures ok { OnOk result (PutsOrWaits (K.written sink.old) (K.written sink.new) (K.offered sink.old) (K.offered sink.new) gathered.old gathered.new) }
-    ensures now { OnOk result (0 < alone.old → GoesOut (K.written sink.old) (K.written sink.new) (K.offered sink.old) (K.offered sink.new) gathered.old gathered.new) }
+fn goes_alone(alone: &mut u8) -> bool
+    ensures goes { 0 < alone.old → result ≡ true }
+    ensures gathers { alone.old ≡ 0 → result ≡ false }
     ensures fewer { alone.new ≡ alone.old - 1 }
-    ensures err { OnErr result (AddsFront (K.written sink.old) (K.written sink.new) gathered.old) }
-    ensures cause { HasCause (K.faults sink.old) (K.faults sink.new) (result ≡ Err RunStop.WriteFault) }
 {
-    if *alone == 0 {
-        put_gathered(sink, gathered)
-    } else {
-        *alone -= 1;
-        put_now(sink, gathered)
-    }
+    let goes = *alone > 0;
+    *alone = alone.saturating_sub(1);
+    goes
 }
 
 /// Logs the audit lines of what a client's call asked, where they are printed.

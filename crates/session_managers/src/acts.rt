@@ -8,6 +8,7 @@ ghost use Rattle.session_managers.specs.One;
 
 use crate::acting::{Act, Call, ClientAct, Got};
 use crate::managers::SessionManagers;
+use crate::one_manager::OneManager;
 use access_vectors::{Asked, Decider};
 use flask_sid::Memory;
 use session_forms::Manager;
@@ -47,7 +48,7 @@ impl<'d, D: Decider> SessionManagers<'d, D> {
         requires { client < 64 }
         ensures { result ≡ SessionStates.acting_on self.now.state client manager }
     {
-        self.changes.managers()[usize::from(number_of(manager))].acting(client)
+        self.one(manager).acting(client)
     }
 
     /// The version of the policy under which a client acts on a manager.
@@ -56,7 +57,7 @@ impl<'d, D: Decider> SessionManagers<'d, D> {
         requires { client < 64 }
         ensures { result ≡ SessionStates.version_on self.now.state client manager }
     {
-        let one = &self.changes.managers()[usize::from(number_of(manager))];
+        let one = self.one(manager);
         one.phase().version_at(one.acting(client))
     }
 
@@ -66,7 +67,20 @@ impl<'d, D: Decider> SessionManagers<'d, D> {
     pub fn got(&self, manager: Manager) -> Got<'_>
         ensures { One.got_answer result ≡ (SessionViews.told_of self.now.told manager).answer }
     {
-        self.changes.managers()[usize::from(number_of(manager))].last_got()
+        match self.one(manager) {
+            OneManager::File(files) => match files.last_reply() {
+                Some(reply) => Got::File(reply),
+                None => Got::Aborted,
+            },
+            OneManager::Process(processes) => match processes.last_reply() {
+                Some(reply) => Got::Process(reply),
+                None => Got::Aborted,
+            },
+            OneManager::Port(ports) => match ports.last_reply() {
+                Some(reply) => Got::Port(reply),
+                None => Got::Aborted,
+            },
+        }
     }
 
     /// What was asked in the newest entry of a manager's history: nothing where it is no call that was done.
@@ -74,7 +88,20 @@ impl<'d, D: Decider> SessionManagers<'d, D> {
     pub fn asked(&self, manager: Manager) -> &[Asked]
         ensures { result.now ≡ (SessionViews.told_of self.now.told manager).asked }
     {
-        self.changes.managers()[usize::from(number_of(manager))].last_asked()
+        match self.one(manager) {
+            OneManager::File(files) => files.last_asked(),
+            OneManager::Process(processes) => processes.last_asked(),
+            OneManager::Port(ports) => ports.last_asked(),
+        }
+    }
+
+    /// One of the managers.
+    #[inline(always)]
+    fn one(&self, manager: Manager) -> &OneManager<'d, D>
+        ensures place { One.place_of result.now ≡ SessionStates.place_in self.now.state manager }
+        ensures told { One.last_told result.now ≡ SessionViews.told_of self.now.told manager }
+    {
+        &self.changes.managers()[usize::from(number_of(manager))]
     }
 
     /// A client takes a pass of the newest number of a manager, and holds it. One that holds a pass keeps that.

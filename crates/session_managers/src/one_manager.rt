@@ -1,11 +1,10 @@
 //! The three managers of a session as one type.
 
-ghost use Rattle.std.specs.Prelude.{◌≡◌, ◌<◌, OnOk, OnErr};
-ghost use Rattle.managed.specs.Seen.{IsServed};
+ghost use Rattle.std.specs.Prelude.{◌≡◌, ◌<◌};
 ghost use Rattle.session_managers.specs.One;
 
-use crate::acting::{Act, Call, ClientAct, Got};
-use access_vectors::{Asked, Decider, Phase};
+use crate::acting::{Act, Call, ClientAct};
+use access_vectors::{Decider, Phase};
 use file_manager::FileCore;
 use flask_sid::Memory;
 use managed::{Managed, Plain, Serves};
@@ -47,89 +46,6 @@ impl<'d, D: Decider> OneManager<'d, D> {
             OneManager::File(files) => files.acting(client),
             OneManager::Process(processes) => processes.acting(client),
             OneManager::Port(ports) => ports.acting(client),
-        }
-    }
-
-    /// What was asked in the newest entry of its history: nothing where it is no call that was done.
-    #[inline(always)]
-    pub fn last_asked(&self) -> &[Asked]
-        ensures { result.now ≡ (One.last_told self.now).asked }
-    {
-        match self {
-            OneManager::File(files) => files.last_asked(),
-            OneManager::Process(processes) => processes.last_asked(),
-            OneManager::Port(ports) => ports.last_asked(),
-        }
-    }
-
-    /// What stands in the newest entry of its history: after a call what it got. `Aborted` also after a notice or an
-    /// acknowledgement, and before the first call.
-    #[inline(always)]
-    pub fn last_got(&self) -> Got<'_>
-        ensures { One.got_answer result ≡ (One.last_told self.now).answer }
-    {
-        match self {
-            OneManager::File(files) => match files.last_reply() {
-                Some(reply) => Got::File(reply),
-                None => Got::Aborted,
-            },
-            OneManager::Process(processes) => match processes.last_reply() {
-                Some(reply) => Got::Process(reply),
-                None => Got::Aborted,
-            },
-            OneManager::Port(ports) => match ports.last_reply() {
-                Some(reply) => Got::Port(reply),
-                None => Got::Aborted,
-            },
-        }
-    }
-
-    /// Does a client's call, which is of this manager, under its held pass or else a pass of the newest number. What it got is read
-    /// where it lies in the history, so the copy for a caller is dropped.
-    #[inline(always)]
-    fn call(&mut self, alloc: Global, client: u8, mark: u32, call: Call) -> Result<(), Memory>
-        requires may { One.MayCall (D.decides (One.decider_of self.old)) (One.place_of self.old) client call }
-        requires client { client < 64 }
-        ensures done { OnOk result (One.HasCalled D.decides client mark self.old call self.new) }
-        ensures as_before { OnErr result (self.new ≡ self.old) }
-        ensures served { IsServed (One.seen D.decides self.old) (One.seen D.decides self.new) }
-    {
-        match (self, call) {
-            (OneManager::File(files), Call::File(call)) => {
-                let _got = files.call(alloc, client, mark, call)?;
-            }
-            (OneManager::Process(processes), Call::Process(call)) => {
-                let _got = processes.call(alloc, client, mark, call)?;
-            }
-            (OneManager::Port(ports), Call::Port(call)) => {
-                let _got = ports.call(alloc, client, mark, call)?;
-            }
-            _ => unreachable!(),
-        }
-        Ok(())
-    }
-
-    /// A client takes a pass of the newest number, and holds it. One that holds a pass keeps that.
-    fn begin(&mut self, client: u8)
-        requires { client < 64 }
-        ensures { One.HasPassed D.decides self.old self.new (One.after_begin client (One.place_of self.old)) }
-    {
-        match self {
-            OneManager::File(files) => files.begin(client),
-            OneManager::Process(processes) => processes.begin(client),
-            OneManager::Port(ports) => ports.begin(client),
-        }
-    }
-
-    /// A client gives its held pass back, if it holds one.
-    fn end(&mut self, client: u8)
-        requires { client < 64 }
-        ensures { One.HasPassed D.decides self.old self.new (One.after_end client (One.place_of self.old)) }
-    {
-        match self {
-            OneManager::File(files) => files.end(client),
-            OneManager::Process(processes) => processes.end(client),
-            OneManager::Port(ports) => ports.end(client),
         }
     }
 }
@@ -189,13 +105,34 @@ impl<'d, D: Decider> Serves for OneManager<'d, D> {
 
     ghost does = { Does D.decides };
 
+    /// Does what a client does at this manager, of which its call is. What a call got is read where it lies in the history, so the
+    /// copy for a caller is dropped.
     #[inline(always)]
     fn serve(&mut self, alloc: Global, act: ClientAct) -> Result<(), Memory> {
         let ClientAct { client, act } = act;
         match act {
-            Act::Call { mark, call } => self.call(alloc, client, mark, call)?,
-            Act::Begin => self.begin(client),
-            Act::End => self.end(client),
+            Act::Call { mark, call } => match (self, call) {
+                (OneManager::File(files), Call::File(call)) => {
+                    let _got = files.call(alloc, client, mark, call)?;
+                }
+                (OneManager::Process(processes), Call::Process(call)) => {
+                    let _got = processes.call(alloc, client, mark, call)?;
+                }
+                (OneManager::Port(ports), Call::Port(call)) => {
+                    let _got = ports.call(alloc, client, mark, call)?;
+                }
+                _ => unreachable!(),
+            },
+            Act::Begin => match self {
+                OneManager::File(files) => files.begin(client),
+                OneManager::Process(processes) => processes.begin(client),
+                OneManager::Port(ports) => ports.begin(client),
+            },
+            Act::End => match self {
+                OneManager::File(files) => files.end(client),
+                OneManager::Process(processes) => processes.end(client),
+                OneManager::Port(ports) => ports.end(client),
+            },
         }
         Ok(())
     }

@@ -1,18 +1,17 @@
 //! The runner of a session's lines.
 
 ghost use Rattle.std.specs.Prelude.{◌≡◌, ◌+◌, ◌<◌, ◌≤◌, ◌^◌, false, None, IsTrue, is_err, IfOk, OnOk};
-ghost use Rattle.session_managers.specs.SessionStates.{opening_state, manager_of, state_called, told_to};
-ghost use Rattle.session_managers.specs.SessionViews.{AreOpenings, HasClients, none_told, told_of};
+ghost use Rattle.session_managers.specs.SessionStates.{opening_state};
+ghost use Rattle.session_managers.specs.SessionViews.{AreOpenings, HasClients, none_told};
 ghost use Rattle.session_text.specs.Sessions.{IsRun};
 ghost use Rattle.session_runner.specs.Runs;
 ghost use Rattle.session_runner.specs.Runners.{IsSameRun};
-ghost use Rattle.session_runner.specs.Underway.{IsCall};
 
 use crate::answering;
-use crate::outcomes::{Called, Caller, LineAnswer};
+use crate::outcomes::LineAnswer;
 use access_vectors::Decider;
 use flask_sid::Memory;
-use session_managers::{Call, Openings, SessionManagers};
+use session_managers::{Openings, SessionManagers};
 use session_text::Run;
 use std::alloc::Global;
 use std::marker::Model;
@@ -23,8 +22,8 @@ use std::sync::Wait;
 /// with these clients, of whom there are at most 62, and that each manager has its notice, unless memory was wanting.
 #[derive(Drop)]
 pub struct Runner<'d, D: Decider> {
-    alloc: Global,
-    managed: SessionManagers<'d, D>,
+    pub(crate) alloc: Global,
+    pub(crate) managed: SessionManagers<'d, D>,
     clients: usize,
     pub(crate) stopped: bool,
 }
@@ -73,45 +72,6 @@ impl<'d, D: Decider> Runner<'d, D> {
             clients,
             stopped: false,
         })
-    }
-
-    /// Does a client's call, which is the line of a number, and says who acted in it.
-    #[tactic(auto, using(crate::proofs::RunnerLemmas::call_within))]
-    #[inline(always)]
-    pub(crate) fn call(&mut self, line: u32, client: u8, call: Call) -> Result<Caller, Memory>
-        requires going { self.old.stopped ≡ false }
-        requires formed { IsCall (λ sid. IsTrue ((D.decides self.old.decider).known sid)) self.old.clients client call }
-        requires countable { self.old.state.calls + 1 < 2 ^ 64 }
-        ensures caller { IfOk result (λ caller. caller ≡ Runs.caller_at self.old.state client (manager_of call)) }
-        ensures told { OnOk result (told_of self.new.told (manager_of call) ≡ told_to (D.decides self.old.decider) self.old.state client call) }
-        ensures state { OnOk result (self.new.state ≡ state_called (D.decides self.old.decider) self.old.state client call) }
-        ensures same { IsSameRun self.old self.new }
-        ensures stopped { self.new.stopped ≡ is_err result }
-    {
-        let manager = call.manager();
-        let caller = Caller {
-            client,
-            manager,
-            number: self.managed.acting(client, manager),
-            version: self.managed.acting_version(client, manager),
-        };
-        let done = self.managed.call(self.alloc, client, line, call);
-        self.stopped = done.is_err();
-        done?;
-        Ok(caller)
-    }
-
-    /// The call of a line: its caller, and what the newest entry of the caller's manager tells.
-    #[inline(always)]
-    pub(crate) fn called(&self, line: u32, caller: Caller) -> Called<'_>
-        ensures { Runs.shown_call result ≡ Runs.shown_newest self.now.told line caller }
-    {
-        Called {
-            line,
-            caller,
-            got: self.managed.got(caller.manager),
-            asked: self.managed.asked(caller.manager),
-        }
     }
 
     /// Does what a line asks that is no client's call.

@@ -8,6 +8,7 @@ ghost use Rattle.session_runner.specs.Recorders.{TakesAll, StopsAt, StopsBeforeO
 ghost use Rattle.session_runner.specs.Runners.{IsSameRun};
 ghost use Rattle.session_runner.specs.Underway.{MayRun};
 
+use crate::outcomes::{Called, Caller};
 use crate::recorder::Recorder;
 use crate::runner::Runner;
 use access_vectors::Decider;
@@ -46,13 +47,29 @@ impl<'d, D: Decider> Runner<'d, D> {
             return Err(Memory.into());
         }
         let RunLine { line, run } = line;
-        let caller = match run {
-            Run::File { client, call } => self.call(line, client, Call::File(call))?,
-            Run::Process { client, call } => self.call(line, client, Call::Process(call))?,
-            Run::Port { client, call } => self.call(line, client, Call::Port(call))?,
+        let (client, call) = match run {
+            Run::File { client, call } => (client, Call::File(call)),
+            Run::Process { client, call } => (client, Call::Process(call)),
+            Run::Port { client, call } => (client, Call::Port(call)),
             run => return self.run_other(rt, RunLine { line, run }, recorder, out),
         };
-        recorder.take_call(self.called(line, caller), out)
+        let manager = call.manager();
+        let caller = Caller {
+            client,
+            manager,
+            number: self.managed.acting(client, manager),
+            version: self.managed.acting_version(client, manager),
+        };
+        let done = self.managed.call(self.alloc, client, line, call);
+        self.stopped = done.is_err();
+        done?;
+        let called = Called {
+            line,
+            caller,
+            got: self.managed.got(manager),
+            asked: self.managed.asked(manager),
+        };
+        recorder.take_call(called, out)
     }
 
     /// Runs a line that is no client's call. Such lines are few, so they stand apart from the loop.

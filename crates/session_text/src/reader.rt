@@ -27,8 +27,18 @@ pub fn read(alloc: Global, bytes: &[u8]) -> Result<Session, TextFault>
 {
     let mut lines = Lines::of(bytes);
     let (first, begun) = read_policy(alloc, &mut lines)?;
-    let (number, setup) = read_setup(alloc, first, begun, &mut lines)?;
-    read_run(alloc, number, setup, lines)
+    let (mut number, setup) = read_setup(alloc, first, begun, &mut lines)?;
+    let mut running = match Running::begun(alloc, setup) {
+        Ok(running) => running,
+        Err(_memory) => return Err(TextFault::Memory),
+    };
+    'lines: while let Some(line) = lines.next() {
+        match run_line_read(alloc, number, &line, &mut running) {
+            Ok(()) => number += 1,
+            Err(refusal) => return Err(refused_at(number, refusal)),
+        }
+    }
+    Ok(running.finish())
 }
 
 /// Reads the lines of the policy and the session line, above which it ends. Answers the number of the next line and what is
@@ -96,31 +106,6 @@ fn read_setup<'a>(
         }
     }
     Err(fault_at(number, FaultKind::Ended))
-}
-
-/// Reads the lines that run, from line `first` to the end of the text.
-fn read_run<'a>(
-    alloc: Global,
-    first: u32,
-    setup: Setup<'a>,
-    below: Lines<'a>,
-) -> Result<Session, TextFault>
-    requires { first ≤ 100001 }
-    ensures { GivesText result (Reading.read_lines (Reading.in_run first setup.entry) below.entry) }
-{
-    let mut number = first;
-    let mut running = match Running::begun(alloc, setup) {
-        Ok(running) => running,
-        Err(_memory) => return Err(TextFault::Memory),
-    };
-    let mut lines = below;
-    'lines: while let Some(line) = lines.next() {
-        match run_line_read(alloc, number, &line, &mut running) {
-            Ok(()) => number += 1,
-            Err(refusal) => return Err(refused_at(number, refusal)),
-        }
-    }
-    Ok(running.finish())
 }
 
 fn fault_at(line: u32, kind: FaultKind) -> TextFault

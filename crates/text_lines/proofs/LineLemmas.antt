@@ -9,7 +9,7 @@ use Rattle.std.proofs.lemmas.List.Sums.{position_or_len_is, prefix_len-le-length
 use Rattle.std.proofs.lemmas.Bool.{and_parts, false_from_ne_true}
 use Rattle.memchr.specs.Find.{IsFirstByte}
 use Rattle.flask_sid.proofs.Cuts.{uncut}
-use Rattle.text_lines.specs.Lines.{is_word_byte, is_gap, begins_word, is_filled, words_of, said_words, lines_below, lines_of, is_line_end, is_text_byte, may_stand}
+use Rattle.text_lines.specs.Lines.{is_word_byte, is_gap, begins_word, is_filled, words_of, said_words, lines_below, lines_of, is_line_end, is_text_byte, may_stand, MayStand, MayAllStand}
 
 -- a byte that divides words says nothing
 pub words_of_gap : (b : ℕ) (bs : List ℕ) → is_word_byte b ≡ false → words_of (b ∷ bs) ≡ words_of bs
@@ -169,6 +169,13 @@ pub line_cut : (bytes line rest : List ℕ) → slice_split is_line_end bytes �
 unfolding lines_of
 line_cut bytes line rest parts =
     rw parts (line_above line (slice_split is_line_end rest) (omega (arith, length-slice_split is_line_end rest)))
+
+-- where all lines may stand the first one may, and those below it
+pub first_stands : (tested : Bool) (line : List ℕ) (below all : List (List ℕ)) → all ≡ line ∷ below → MayAllStand tested all → MayStand tested line
+first_stands tested line below all is stand test = (and_parts _ _ (rw is at (stand test))).0
+
+pub others_stand : (tested : Bool) (line : List ℕ) (below all : List (List ℕ)) → all ≡ line ∷ below → MayAllStand tested all → MayAllStand tested below
+others_stand tested line below all is stand test = (and_parts _ _ (rw is at (stand test))).1
 
 -- the first byte that passes a test stands at its position
 pub first_position : (p : ℕ → Bool) (xs : List ℕ) (r : Option ℕ) → IsFirstByte p xs r → r ≡ position p xs

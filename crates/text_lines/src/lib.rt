@@ -14,7 +14,7 @@ mod words;
 
 pub use fault::{FaultKind, Refusal, TextFault};
 pub use index::{Key, WordIndex};
-pub use line::{LINE_LIMIT, first_line, line_words};
+pub use line::{LINE_LIMIT, line_words};
 pub use lines::{Line, Lines};
 pub use numerals::{numeral, put_number};
 pub use words::Words;

@@ -1,6 +1,6 @@
 //! A line of a text, and where it ends.
 
-ghost use Rattle.std.specs.Prelude.{◌≡◌, ◌≤◌, [], ◌∷◌, MatchOption, OnOk};
+ghost use Rattle.std.specs.Prelude.{◌≡◌, ◌≤◌, OnOk};
 ghost use Rattle.std.specs.List.{list_all, position};
 ghost use Rattle.text_lines.specs.Lines;
 
@@ -12,27 +12,9 @@ use memchr::memchr;
 /// The greatest number that a line may have.
 pub const LINE_LIMIT: u32 = 100_000;
 
-/// The first line of a text and the text below it, or `None` exactly where no line is left.
+/// Where the first line of a text ends, if it has a line end.
 #[inline(always)]
-pub fn first_line(bytes: &[u8]) -> Option<(&[u8], &[u8])>
-    ensures { MatchOption result (Lines.lines_of bytes.now ≡ [])
-        (λ parts. Lines.lines_of bytes.now ≡ parts.0.now ∷ Lines.lines_of parts.1.now) }
-{
-    if bytes.is_empty() {
-        return None;
-    }
-    match line_end(bytes) {
-        None => Some((bytes, &[])),
-        Some(at) => {
-            let (line, _) = bytes.split_at(at);
-            let (_, below) = bytes.split_at(at + 1);
-            Some((line, below))
-        }
-    }
-}
-
-#[inline(always)]
-fn line_end(bytes: &[u8]) -> Option<usize>
+pub(crate) fn line_end(bytes: &[u8]) -> Option<usize>
     ensures { result ≡ position Lines.is_line_end bytes.now }
 {
     memchr(b'\n', bytes)

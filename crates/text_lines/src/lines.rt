@@ -4,7 +4,7 @@ ghost use Rattle.std.specs.Prelude.{◌≡◌, [], ◌∷◌, MatchOption};
 ghost use Rattle.std.specs.List.{list_all};
 ghost use Rattle.text_lines.specs.Lines.{is_text_byte, lines_of, may_stand};
 
-use crate::line::{first_line, may_all_stand};
+use crate::line::{line_end, may_all_stand};
 use crate::words::is_word_byte;
 use std::marker::Model;
 
@@ -105,14 +105,21 @@ impl<'a> Lines<'a> {
         ensures { MatchOption result ((self.old ≡ []) × (self.new ≡ []))
             (λ line. self.old ≡ line ∷ self.new) }
     {
-        match first_line(self.rest) {
-            None => None,
-            Some((bytes, rest)) => {
-                self.rest = rest;
-                Some(Line {
-                    bytes,
-                    stands: self.stand,
-                })
+        if self.rest.is_empty() {
+            return None;
+        }
+        let stands = self.stand;
+        match line_end(self.rest) {
+            None => {
+                let bytes = self.rest;
+                self.rest = &[];
+                Some(Line { bytes, stands })
+            }
+            Some(at) => {
+                let (bytes, _) = self.rest.split_at(at);
+                let (_, below) = self.rest.split_at(at + 1);
+                self.rest = below;
+                Some(Line { bytes, stands })
             }
         }
     }

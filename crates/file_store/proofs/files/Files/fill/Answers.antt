@@ -1,6 +1,5 @@
-use Rattle.std.proofs.Common.{ℕ, IsTrue, sym, ap, subst, ◌∙◌}
+use Rattle.std.proofs.Common.{IsTrue, sym, ap, subst, ◌∙◌}
 use Rattle.access_vectors.specs.Decisions.{Decisions}
-use Rattle.access_vectors.specs.Stale.{slot_place}
 use Rattle.retained_rights.specs.Claims.{Claim, claims_of}
 use Rattle.retained_rights.specs.Rights.{Fit}
 use Rattle.retained_rights.proofs.MapLemmas.{mapped-insert}

@@ -7,5 +7,5 @@ returns-in_err-put_answer-clause-stopped g c =
 
 pub returns-clause-stopped : goal.returns-clause-stopped
 returns-clause-stopped g c =
-    stops_at_line g.K.Sink.written g.K.Sink.faults c.args.self.now c.args.sink.now c.put_next.new.sink _ c.put_next.result c.put_answer.new.out
-    c.in_ok-put_answer.ensures.ok c.put_next.ensures.err c.put_next.ensures.cause
+    stops_at_line g.K.Sink.written g.K.Sink.faults c.args.self.now c.args.sink.now c.put_gathered.new.sink _ c.put_gathered.result c.put_answer.new.out
+    c.in_ok-put_answer.ensures.ok c.put_gathered.ensures.err c.put_gathered.ensures.cause

@@ -1,16 +1,20 @@
-use Rattle.std.proofs.Common.{◌<◌, refl, arith}
+use Rattle.std.proofs.Common.{◌<◌, ◌∙◌, ap, arith}
 use Rattle.std.proofs.lemmas.List.Elements.{All-nil}
 use Rattle.session_text.specs.declared.session.RunLine.{RunLine}
-use Rattle.session_text.specs.Reading.{read_end}
+use Rattle.policy_text.specs.Reading.{begun as policy_begun}
+use Rattle.session_text.specs.Readers as part
+use Rattle.session_text.specs.Reading.{read_end, read_lines, session_of}
 use Rattle.session_text.proofs.LineLemmas.{next_above}
 use Rattle.session_text.proofs.ReadingLemmas.{below_line, fails_at, at_end, run_line, run_refused}
-use Rattle.session_text.proofs.reader.read_run.Goals as goal
+use Rattle.session_text.proofs.reader.read.Goals as goal
 
 pub lines-init : goal.lines-init
+unfolding session_of
 lines-init c = record {
-  so_far = rw c.in-Ok.ensures.value refl;
-  counted = c.requires;
-  above = rw c.in-Ok.ensures.idle (All-nil (λ (line : RunLine). line.line < c.args.first));
+  so_far = rw c.in-Ok.ensures.value
+      (c.in_ok-number.ensures.said ∙ c.in_ok-first.ensures.said ∙ ap (read_lines (part.Policy policy_begun)) c.of-lines.ensures);
+  counted = c.in_ok-number.ensures.counted;
+  above = rw c.in-Ok.ensures.idle (All-nil (λ (line : RunLine). line.line < c.in_ok-number.number));
 }
 
 pub lines-preserved : goal.lines-preserved
